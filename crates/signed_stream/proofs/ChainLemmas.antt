@@ -14,6 +14,7 @@ use Rattle.eventstream.specs.Link.{begun, link_message, link_signature}
 use Rattle.eventstream.specs.Told.{encoding_refusal, unsigned_at}
 use Rattle.eventstream.specs.Write.{IsFrameFault}
 use Rattle.eventstream.specs.declared.error.ErrorKind.{ErrorKind}
+use Rattle.eventstream.specs.declared.error.ErrorKind.TheVariants as reasons
 use Rattle.eventstream.specs.declared.sign_error.SignMessageError.{SignMessageError}
 use Rattle.eventstream.specs.declared.sign_error.SignMessageError.TheVariants as signing
 use Rattle.eventstream.proofs.LinkLemmas.{link_framed}
@@ -23,7 +24,7 @@ use Rattle.signed_stream.specs.declared.form.Form.{Form}
 use Rattle.chain_watch.specs.Chain.{IsWholeChain}
 use Rattle.signed_stream.specs.Chain.{Refusal, chain_text, fault_at, first_refusal, frames_text, link_text, outside_years, refusal_at, refusal_fault, streamed_text, text_before, unframed_at, unlinked}
 use Rattle.signed_stream.specs.Halt.{Halts, unless_refused}
-use Rattle.signed_stream.specs.Sending.{TakesInTurn, IsSignFault, next_refused, sign_ending}
+use Rattle.signed_stream.specs.Sending.{TakesInTurn, IsRefusedBy, IsSignFault, IsWriteFault, next_refused, sign_ending, write_ending}
 use Rattle.signed_stream.specs.Status.{Ending, RunFault, moment_out_of_range, no_memory, output_fault, refused}
 use Rattle.signed_stream.proofs.YearLemmas.{in_years, years_in}
 
@@ -60,9 +61,10 @@ next_passes who place signature [] t signed framed = rw (signed_inside t signed)
 next_passes who place signature (event ∷ events) t signed framed =
     let parts = no_encoding (unframed event) (unsigned_at t) signed in rw (parts.0, signed_inside t parts.1, framed) refl
 
--- how a refused signature halts, and that the frame is refused so
-abbrev IsRefusedBy : Signer → ℕ → List ℕ → List Parts → Instant → Ending → Type 0
-IsRefusedBy who place signature events t halt = (told : RunFault) × (halt ≡ refused told) × (next_refused who place signature events t ≡ Some told)
+-- a message without a frame isn't written, and the run ends so
+pub unframed_ends : (place : ℕ) (kind : ErrorKind) → IsFrameFault kind → IsWriteFault kind × (write_ending place kind ≡ refused (fault_at place kind))
+unframed_ends place reasons.NoMemory of = absurd of
+unframed_ends place kind of = (of, refl)
 
 -- a moment outside the years
 outside_refused : (place : ℕ) (t : Instant) (error : SignMessageError) → unsigned_at t ≡ Some error → (error ≡ signing.MomentOutOfRange t) × (is_in_years t ≡ false)
@@ -89,14 +91,14 @@ sign_refused who place signature (event ∷ events) t error is = by_reason (unfr
         rw found.0 (tt, (moment_out_of_range t, refl, stopped))
     by_reason (Some kind) unframed_is is =
         let same : error ≡ encoding_refusal kind = cc in
-        let of : IsFrameFault kind = unframed_fault event kind unframed_is in
+        let ends = unframed_ends place kind (unframed_fault event kind unframed_is) in
         let stopped : unlinked who place signature event t ≡ Some (fault_at place kind) = rw unframed_is refl in
-        rw same (of, (fault_at place kind, refl, stopped))
+        rw same (ends.0, (fault_at place kind, ends.1, stopped))
 
 -- a signed message without a frame is that of an event
 pub write_refused : (who : Signer) (place : ℕ) (signature : List ℕ) (events : List Parts) (t : Instant) (kind : ErrorKind) → next_unsigned events t ≡ None
     → unframed (link_message who signature (next_bytes events) t) ≡ Some kind
-    → IsFrameFault kind × IsRefusedBy who place signature events t (refused (fault_at place kind))
+    → IsWriteFault kind × IsRefusedBy who place signature events t (write_ending place kind)
 unfolding unlinked
 write_refused who place signature [] t kind signed unframed_is =
     let framed = closing_framed who signature t (in_years t (signed_inside t signed)) in
@@ -104,9 +106,9 @@ write_refused who place signature [] t kind signed unframed_is =
 write_refused who place signature (event ∷ events) t kind signed unframed_is =
     let parts = no_encoding (unframed event) (unsigned_at t) signed in
     let message = link_message who signature (frame event) t in
-    let of : IsFrameFault kind = unframed_fault message kind unframed_is in
+    let ends = unframed_ends place kind (unframed_fault message kind unframed_is) in
     let stopped : unlinked who place signature event t ≡ Some (fault_at place kind) = rw (parts.0, signed_inside t parts.1, unframed_is) refl in
-    (of, (fault_at place kind, refl, stopped))
+    (ends.0, (fault_at place kind, ends.1, stopped))
 
 -- ## The chain
 

@@ -43,6 +43,7 @@ use Rattle.signed_stream.specs.declared.status.StreamFault.TheVariants as faults
 use Rattle.signed_stream.specs.declared.form.Form.TheVariants.{Raw}
 use Rattle.smithy_core.specs.Clock.{ClockState, GivesNext}
 use Rattle.smithy_core.specs.Given.{GivesEach}
+use Rattle.smithy_core.specs.Outside.{RoseOrStands}
 use Rattle.smithy_core.specs.declared.outside.clock.Clock as Clock
 use Rattle.smithy_core.proofs.GivenLemmas.{given_last}
 use Rattle.signed_stream.proofs.GeneratorLemmas.{draw_fits}
@@ -310,3 +311,8 @@ pub check_wants : (seed bytes : List ℕ) (events : List Parts) (told : ChainFau
     → (chain_events generated_signer seed bytes ≡ Err told) ⊎ (told ≡ chains.NoMemory) → told ≡ chains.NoMemory
 check_wants seed bytes events told drawn is same (inl refused) = let wrong : Ok (map floored_message events) ≡ Err told = sym (check_passes seed bytes events drawn is same) ∙ refused in cc
 check_wants seed bytes events told drawn is same (inr none) = none
+
+-- a count that is always 0 neither rises nor is saturated
+pub never_rises : RoseOrStands 0 0 → ⊥
+never_rises (inl less) = absurd (omega (arith, less))
+never_rises (inr is) = let no : ⊥ = cc in no

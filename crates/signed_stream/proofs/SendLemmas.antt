@@ -1,5 +1,5 @@
 -- A head and lines that are sent after it.
-use Rattle.std.proofs.Common.{◌≡◌, ◌==◌, ℕ, ◌+◌, inl, inr, true, List, [], ◌∷◌, ◌++◌, map, length, Option, Some, None, refl, arith}
+use Rattle.std.proofs.Common.{◌≡◌, ◌==◌, ℕ, ◌+◌, inl, inr, true, List, [], ◌++◌, length, Option, Some, None, refl, arith}
 use Rattle.std.specs.Prelude.{Result, Ok, Err}
 use Rattle.std.proofs.lemmas.Bool.{eq-eqb}
 use Rattle.smithy_core.specs.Moment.{Instant}
@@ -19,10 +19,6 @@ use Rattle.signed_stream.specs.Sending.{IsWhole, SendsAll, SendsChain}
 use Rattle.signed_stream.specs.Status.{Ending, RunFault, done, no_memory, output_fault, refused, stream_ending}
 use Rattle.signed_stream.specs.Written.{signed_head, written_stream, written_before, written_end, written_until}
 use Rattle.signed_stream.proofs.ChainLemmas.{sent_needed}
-
--- the first element of a list, and the others, each as a function makes it
-pub front_mapped : {X Y : Type 0} (f : X → Y) (old new : List X) (x : X) → old ≡ x ∷ new → map f old ≡ f x ∷ map f new
-front_mapped f old new x is = rw is refl
 
 -- the text that is written is the head, and then the lines that are streamed
 pub written_lines : (form : Form) (refusal : Option Refusal) (target : List ℕ) (c : Case) (events : List Parts) (moments : List Instant)

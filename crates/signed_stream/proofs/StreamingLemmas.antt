@@ -6,6 +6,7 @@ use Rattle.std.proofs.lemmas.Bool.Decides.{nat_tests}
 use Rattle.std.proofs.lemmas.List.{append_assoc}
 use Rattle.smithy_core.specs.Civil.{is_in_years}
 use Rattle.smithy_core.specs.Moment.{Instant}
+use Rattle.smithy_core.specs.Outside.{Gains}
 use Rattle.smithy_core.specs.Message.{Parts}
 use Rattle.smithy_core.specs.declared.request.HttpRequest.{HttpRequest}
 use Rattle.smithy_http.specs.Target.{Target}
@@ -23,8 +24,8 @@ use Rattle.signed_stream.specs.Sending.{SendsAll}
 use Rattle.signed_stream.specs.Settings.{GivesSettings, Selected, settings}
 use Rattle.signed_stream.specs.Sign.{IsSignedFor, SealsFor, Unsigned, case_fault, request_fault, target_fault}
 use Rattle.signed_stream.specs.Status.{Ending, RunFault, invalid_uri, missing_credentials, missing_signing_region, moment_out_of_range, no_memory, parse_error, refused, settings_ending, stream_ending}
-use Rattle.signed_stream.specs.Stream.{case_plan, request_plan, selected_plan, target_plan}
-use Rattle.signed_stream.specs.Streaming.{CompletesStream, Streams, stream_plan}
+use Rattle.signed_stream.specs.Stream.{IsValid, case_plan, request_plan, selected_plan, target_plan, valid_case, written_valid}
+use Rattle.signed_stream.specs.Streaming.{CompletesStream, HasSentStream, SignsAndStreams, Streams, job_with, stream_plan}
 use Rattle.signed_stream.specs.Written.{case_refusal, head_in_form}
 use Rattle.signed_stream.specs.declared.form.Form.{Form}
 use Rattle.signed_stream.specs.declared.settings.SettingsFault.{SettingsFault}
@@ -155,3 +156,43 @@ module _ (files : List FileText) (profile : List ℕ) (env : List (List ℕ × L
   lacking_completes faults.MissingCredentials told selected gives settled tells = let wrong : Err missing_credentials ≡ Ok selected = sym gives ∙ settled in cc
   lacking_completes faults.MissingSigningRegion told selected gives settled tells = let wrong : Err missing_signing_region ≡ Ok selected = sym gives ∙ settled in cc
   lacking_completes faults.NoMemory told selected gives settled tells = inr (inr tells)
+
+-- ## A copy of the request
+
+module _ (copy request : HttpRequest) (events : List Parts) (method : string_bytes copy.method ≡ string_bytes request.method) (target : string_bytes copy.target ≡ string_bytes request.target)
+    (headers : copy.headers ≡ request.headers) (body : copy.body ≡ request.body) where
+  same_parts : job_with copy events ≡ job_with request events
+  same_parts = rw (method, target, headers, body) refl
+
+  -- what is signed for the one is signed for the other
+  same_signed : (c : Case) (new : HttpRequest) → IsSignedFor c copy new → IsSignedFor c request new
+  same_signed c new is = record { method = is.method; target = rw target at is.target; headers = is.headers; body = is.body ∙ body }
+
+  same_sent : (files : List FileText) (profile : List ℕ) (env : List (List ℕ × List ℕ)) (wanted : Wanted) (t : TargetRead) (moments : List Instant) (before now : Option (List ℕ)) (result : Result HttpRequest StreamFault)
+      → HasSentStream files profile env wanted copy events t moments before now result → HasSentStream files profile env wanted request events t moments before now result
+  same_sent files profile env wanted t moments before now (Err fault) sent = tt
+  same_sent files profile env wanted t moments before now (Ok new) (input, gains, is) =
+      subst (λ (j : JobParts). (input : IsValid files profile env wanted j t moments) × Gains before now (written_valid input) × IsSignedFor (valid_case input) request new) same_parts
+      (input, gains, same_signed (valid_case input) new is)
+
+  -- and so is what is streamed
+  pub same_request : (clock : List Instant → Type 0) (old new : List Instant) (files : List FileText) (profile : List ℕ) (env : List (List ℕ × List ℕ)) (wanted : Wanted)
+      (result : Result HttpRequest StreamFault) (before now : Option (List ℕ))
+      → SignsAndStreams clock old new files profile env wanted copy events result before now → SignsAndStreams clock old new files profile env wanted request events result before now
+  same_request clock old new files profile env wanted result before now signs =
+      let sent = signs.streams in
+      record {
+        streams = record {
+          target = sent.target;
+          taken = sent.taken;
+          spelled = rw target at sent.spelled;
+          gained = sent.gained;
+          given = sent.given;
+          goes = rw same_parts at sent.goes;
+          needed = rw same_parts at sent.needed;
+        };
+        headline = same_sent files profile env wanted sent.target sent.taken before now result signs.headline;
+        complete = λ t later spells valid.
+            signs.complete t later (subst (λ (text : List ℕ). TargetSpells text t) (sym target) spells)
+            (subst (λ (j : JobParts). IsValid files profile env wanted j t (sent.taken ++ later)) (sym same_parts) valid);
+      }

@@ -1,18 +1,18 @@
 -- What sending a chain promises to the functions that send it; a reader of `run` needs none of it.
-use Rattle.std.specs.Prelude.{◌≡◌, ℕ, ◌+◌, ◌≤◌, List, [], ◌∷◌, ◌++◌, length, Result, Ok, Err, Option, None}
+use Rattle.std.specs.Prelude.{◌≡◌, ℕ, ◌+◌, ◌≤◌, ◌⊎◌, List, [], ◌∷◌, ◌++◌, length, Result, Ok, Err, Option, Some, None}
 use Rattle.smithy_core.specs.Message.{Parts}
 use Rattle.smithy_core.specs.Moment.{Instant}
-use Rattle.smithy_core.specs.declared.sdk_error.SdkError.TheVariants as sdk
 use Rattle.eventstream.specs.Error.{error_kind}
+use Rattle.eventstream.specs.Frame.{frame, unframed}
 use Rattle.eventstream.specs.Key.{Signer}
+use Rattle.eventstream.specs.Link.{link_message, link_signature}
 use Rattle.eventstream.specs.Told.{Told, signs_over}
 use Rattle.eventstream.specs.Write.{IsFrameFault}
+use Rattle.eventstream.specs.declared.error.ErrorKind.{ErrorKind}
+use Rattle.eventstream.specs.declared.error.ErrorKind.TheVariants as reasons
 use Rattle.eventstream.specs.declared.sign_error.SignMessageError.{SignMessageError}
 use Rattle.eventstream.specs.declared.sign_error.SignMessageError.TheVariants as signing
-use Rattle.event_io.specs.AdapterFault.{SendError}
-use Rattle.event_io.specs.declared.adapter.Next.{Next}
-use Rattle.event_io.specs.declared.adapter.Next.TheVariants.{Frame}
-use Rattle.event_io.specs.declared.adapter_fault.AdapterFault.TheVariants.{Sign, Write}
+use Rattle.event_io.specs.Chain.{next_bytes}
 use Rattle.signed_stream.specs.Chain.{fault_at, first_refusal, outside_years, refusal_fault, streamed_text, unlinked}
 use Rattle.signed_stream.specs.Halt.{Sends}
 use Rattle.signed_stream.specs.Status.{Ending, RunFault, moment_out_of_range, no_memory, refused, stream_ending}
@@ -26,37 +26,47 @@ abbrev pub next_refused : Signer → ℕ → List ℕ → List Parts → Instant
 next_refused who place signature [] t = outside_years t
 next_refused who place signature (event ∷ events) t = unlinked who place signature event t
 
--- the refusals of a signer that has a secret
+-- how a run ends for that reason, and that it is one
+abbrev pub IsRefusedBy : Signer → ℕ → List ℕ → List Parts → Instant → Ending → Type 0
+IsRefusedBy who place signature events t halt = (fault : RunFault) × (halt ≡ refused fault) × (next_refused who place signature events t ≡ Some fault)
+
+-- why a message isn't written: it has no frame, or memory ran out
+abbrev pub IsWriteFault : ErrorKind → Type 0
+IsWriteFault reasons.NoMemory = Unit {0}
+IsWriteFault kind = IsFrameFault kind
+
+-- how the run ends with one at a place
+abbrev pub write_ending : ℕ → ErrorKind → Ending
+write_ending place reasons.NoMemory = no_memory
+write_ending place kind = refused (fault_at place kind)
+
+-- the refusals of a signer that has a secret, and that memory ran out
 abbrev pub IsSignFault : SignMessageError → Type 0
-IsSignFault (signing.FailedToEncodeMessage error) = IsFrameFault (error_kind error)
+IsSignFault (signing.FailedToEncodeMessage error) = IsWriteFault (error_kind error)
 IsSignFault (signing.MomentOutOfRange t) = Unit {0}
+IsSignFault signing.NoMemory = Unit {0}
 IsSignFault error = ⊥
 
 -- how the run ends with one at a place
 abbrev pub sign_ending : ℕ → SignMessageError → Ending
-sign_ending place (signing.FailedToEncodeMessage error) = refused (fault_at place (error_kind error))
+sign_ending place (signing.FailedToEncodeMessage error) = write_ending place (error_kind error)
 sign_ending place (signing.MomentOutOfRange t) = refused (moment_out_of_range t)
 sign_ending place error = no_memory
 
--- the answers of an adapter of messages whose signer has a secret
-abbrev pub IsChainAnswer : Result Next SendError → Type 0
-IsChainAnswer (Ok (Frame bytes)) = Unit {0}
-IsChainAnswer (Err (sdk.ConstructionFailure (Sign error))) = IsSignFault error
-IsChainAnswer (Err (sdk.ConstructionFailure (Write error))) = IsFrameFault (error_kind error)
-IsChainAnswer (Err sdk.NoMemory) = Unit {0}
-IsChainAnswer answer = ⊥
+-- these are the bytes of the frame of the message at a place; or it has none, or memory ran out
+abbrev pub PutsFrame : ℕ → Parts → List ℕ → Result (Unit {0}) StreamFault → Type 0
+PutsFrame place message bytes (Ok _) = (unframed message ≡ None) × (bytes ≡ frame message)
+PutsFrame place message bytes (Err fault) =
+    (kind : ErrorKind) × ((unframed message ≡ Some kind) ⊎ (kind ≡ reasons.NoMemory)) × (stream_ending fault ≡ write_ending place kind)
 
--- how the run ends with one at a place, where it isn't a frame
-abbrev pub answer_ending : ℕ → Result Next SendError → Ending
-answer_ending place (Err (sdk.ConstructionFailure (Sign error))) = sign_ending place error
-answer_ending place (Err (sdk.ConstructionFailure (Write error))) = refused (fault_at place (error_kind error))
-answer_ending place answer = no_memory
-
--- the frame that was answered, or how the run ends with the answer
-abbrev pub GivesEventFrame : ℕ → Result Next SendError → Result (List ℕ) StreamFault → Type 0
-GivesEventFrame place answer (Ok bytes) = answer ≡ Ok (Frame bytes)
-GivesEventFrame place (Ok next) (Err fault) = ⊥
-GivesEventFrame place answer (Err fault) = stream_ending fault ≡ answer_ending place answer
+-- these are the bytes of the frame of the first of these events, or of the closing one, signed at a moment over the signature before it, from whose own
+-- the signer goes on; or it is refused, or memory ran out
+abbrev pub Seals : Signer → ℕ → List ℕ → List Parts → Instant → List ℕ → Told → Result (Unit {0}) StreamFault → Type 0
+Seals who place signature events t bytes told (Ok _) =
+    (next_refused who place signature events t ≡ None)
+    × (bytes ≡ frame (link_message who signature (next_bytes events) t))
+    × (told ≡ signs_over (link_signature who signature (next_bytes events) t) who)
+Seals who place signature events t bytes told (Err fault) = (stream_ending fault ≡ no_memory) ⊎ IsRefusedBy who place signature events t (stream_ending fault)
 
 -- ## The chain
 
@@ -68,6 +78,10 @@ told_signer told = record { secret = []; region = []; name = [] }
 abbrev pub told_signature : Told → List ℕ
 told_signature (signs_over signature who) = signature
 told_signature told = []
+
+-- a signer of a chain
+abbrev pub IsSealer : Told → Type 0
+IsSealer told = told ≡ signs_over (told_signature told) (told_signer told)
 
 -- with no fault each event and the closing frame had its moment
 abbrev pub IsWhole : {T : Type 0} → List Parts → List Instant → Result T StreamFault → Type 0

@@ -1,31 +1,27 @@
-ghost use Rattle.std.specs.Prelude.{◌≡◌, ◌+◌, ◌++◌, List, None, IsErrOf, length};
+ghost use Rattle.std.specs.Prelude.{◌≡◌, ◌++◌, ℕ, List, None, IsErrOf, OnOk, option_to_list};
 ghost use Rattle.smithy_core.specs.Given.{GivesEach};
 ghost use Rattle.smithy_core.specs.Moment.{Instant};
 ghost use Rattle.smithy_core.specs.Outside.{CountsFault};
-ghost use Rattle.eventstream.specs.Told.{signs_over};
-ghost use Rattle.eventstream.specs.Write.{IsFrameFault};
-ghost use Rattle.event_io.specs.Adapter.{adapter_signer, item_source_of};
-ghost use Rattle.event_io.specs.Chain.{Chains};
+ghost use Rattle.eventstream.specs.Key.{Signer};
+ghost use Rattle.eventstream.specs.Told.{SignsLink, signs_over};
+ghost use Rattle.event_io.specs.Chain.{next_bytes, next_unsigned};
 ghost use Rattle.aws_auth.specs.MessageSigner.{running_signature, signer_in, told_of};
-ghost use Rattle.signed_stream.specs.Chain.{fault_at, frame_text};
+ghost use Rattle.signed_stream.specs.Chain.{frame_text};
 ghost use Rattle.signed_stream.specs.Halt.{Sends};
-ghost use Rattle.signed_stream.specs.Status.{refused, stream_ending};
-ghost use Rattle.signed_stream.specs.Sending.{IsChainAnswer, IsSignFault, SendsChain, GivesEventFrame, told_signature, told_signer, sign_ending};
+ghost use Rattle.signed_stream.specs.Status.{stream_ending};
+ghost use Rattle.signed_stream.specs.Sending.{IsSealer, IsSignFault, IsWriteFault, PutsFrame, Seals, SendsChain, sign_ending, write_ending};
 
 use crate::form::Form;
-use crate::own_events::OwnEvents;
 use crate::status::StreamFault;
 use aws_auth::SigV4MessageSigner;
-use bytes::Bytes;
-use event_io::{AdapterFault, EventSource, MessageStreamAdapter, Next};
-use eventstream::{ErrorKind, IdentityMarshaller, SignMessage, SignMessageError};
-use smithy_core::{ByteSink, Clock, Message, Moment, RawMessage, SdkError, SinkError, write_all};
-use std::alloc::Global;
+use event_io::take_moment;
+use eventstream::{ErrorKind, SignMessage, SignMessageError, write_message_to};
+use smithy_core::{ByteSink, Clock, Mem, Message, Moment, SinkError, write_all};
+use std::alloc::{AllocError, Global};
+use std::collections::VecDeque;
 
-// Makes frames of events in memory, which are messages as they are.
-type EventAdapter<G> = MessageStreamAdapter<OwnEvents, IdentityMarshaller, IdentityMarshaller, G>;
-
-/// Streams the events in a form: a signed frame for each and an empty one last, each at a moment of its own.
+/// Streams the events in a form: a signed frame for each and an empty one last, each at a moment of its own. An event goes when it is
+/// signed, and a frame takes the room of the one before it.
 ///
 /// # Errors
 ///
@@ -35,7 +31,7 @@ type EventAdapter<G> = MessageStreamAdapter<OwnEvents, IdentityMarshaller, Ident
 /// the frames that were begun.
 pub fn stream_events<C: Clock, K: ByteSink>(
     alloc: Global,
-    signer: SigV4MessageSigner<()>,
+    mut signer: SigV4MessageSigner<()>,
     events: Vec<Message>,
     clock: &mut C,
     form: Form,
@@ -48,60 +44,69 @@ pub fn stream_events<C: Clock, K: ByteSink>(
     ensures counts { CountsFault (IsErrOf result StreamFault.SinkFault) (K.faults sink.old) (K.faults sink.new) }
 {
     let end = events.len() + 2;
-    let events = OwnEvents::new(events);
-    let adapter = MessageStreamAdapter::new(
-        alloc,
-        IdentityMarshaller,
-        IdentityMarshaller,
-        signer,
-        events,
-    );
-    send_frames(alloc, adapter, end, clock, form, sink, moments)
-}
-
-// Writes the frames that an adapter makes of the events and of their end, from the first place to that before `end`.
-fn send_frames<G: SignMessage, C: Clock, K: ByteSink>(
-    alloc: Global,
-    mut adapter: EventAdapter<G>,
-    end: usize,
-    clock: &mut C,
-    form: Form,
-    sink: &mut K,
-    moments: &mut Vec<Moment>,
-) -> Result<(), StreamFault>
-    requires places { end ≡ length (item_source_of adapter) + 2 }
-    requires chains { Chains ⟦<OwnEvents as EventSource>⟧ G.SignMessage (told_signer (G.told (adapter_signer adapter))) (item_source_of adapter) (told_signature (G.told (adapter_signer adapter))) adapter }
-    ensures sends { (taken : List Instant) × (moments.new.items ≡ moments.old.items ++ taken) × GivesEach C.Clock clock.old taken clock.new
-        × SendsChain form (told_signer (G.told (adapter_signer adapter))) (item_source_of adapter) (told_signature (G.told (adapter_signer adapter))) (K.held sink.old) (K.held sink.new) taken result }
-    ensures counts { CountsFault (IsErrOf result StreamFault.SinkFault) (K.faults sink.old) (K.faults sink.new) }
-{
+    let mut left = VecDeque::from(events);
+    let mut frame = Vec::new(alloc);
+    let mut line = Vec::new(alloc);
     'frames: for place in 1..end {
-        let answer = adapter.poll_next(clock, moments);
-        let frame = frame_at(place, answer)?;
-        write_frame(alloc, frame.as_slice(), form, sink)?;
+        let at = take_moment(clock, moments)?;
+        seal(alloc, &mut signer, left.pop_front(), place, at, &mut frame)?;
+        write_frame(frame.as_slice(), form, &mut line, sink)?;
     }
     Ok(())
 }
 
-// The frame that an adapter answered for a place.
-fn frame_at(
+// Signs an event, or with none the message that closes the chain, and puts its frame in place of the bytes that were there.
+fn seal<G: SignMessage>(
+    alloc: Global,
+    signer: &mut G,
+    event: Option<Message>,
     place: usize,
-    answer: Result<Next, SdkError<AdapterFault, AdapterFault, RawMessage>>,
-) -> Result<Bytes, StreamFault>
-    requires { IsChainAnswer answer }
-    ensures { GivesEventFrame place answer result }
+    at: Moment,
+    frame: &mut Vec<u8>,
+) -> Result<(), StreamFault>
+    requires { IsSealer (G.told signer.old) }
+    ensures { (who : Signer) (signature : List ℕ) → G.told signer.old ≡ signs_over signature who
+        → Seals who place signature (option_to_list event) at frame.new.items (G.told signer.new) result }
 {
-    match answer {
-        Ok(Next::Frame(bytes)) => Ok(bytes),
-        Err(SdkError::ConstructionFailure(AdapterFault::Sign(error))) => Err(sign_fault(
-            place, error,
-        )),
-        Err(SdkError::ConstructionFailure(AdapterFault::Write(error))) => Err(fault_at(
-            place,
-            error.kind(),
-        )),
-        Err(SdkError::NoMemory) => Err(StreamFault::NoMemory),
-        _ => unreachable!(),
+    match sign_next(signer, event, at) {
+        Ok(message) => put_frame(alloc, &message, place, frame),
+        Err(error) => Err(sign_fault(place, error)),
+    }
+}
+
+// An event, or with none the message that closes the chain, signed.
+fn sign_next<G: SignMessage>(
+    signer: &mut G,
+    event: Option<Message>,
+    at: Moment,
+) -> Result<Message, SignMessageError>
+    requires { IsSealer (G.told signer.old) }
+    ensures { (who : Signer) (signature : List ℕ) → G.told signer.old ≡ signs_over signature who
+        → SignsLink (next_unsigned (option_to_list event) at) signature who (next_bytes (option_to_list event)) at result (G.told signer.new) }
+{
+    match event {
+        Some(event) => signer.sign(event, at),
+        None => match signer.sign_empty(at) {
+            Some(signed) => signed,
+            None => unreachable!(),
+        },
+    }
+}
+
+// Puts the frame of the message at a place in place of the bytes that were there.
+#[tactic(auto, using(eventstream::proofs::UnframedLemmas::unframed_fault))]
+fn put_frame(
+    alloc: Global,
+    message: &Message,
+    place: usize,
+    frame: &mut Vec<u8>,
+) -> Result<(), StreamFault>
+    ensures { PutsFrame place message.now frame.new.items result }
+{
+    frame.clear();
+    match write_message_to(alloc, message, frame) {
+        Ok(()) => Ok(()),
+        Err(error) => Err(fault_at(place, error.kind())),
     }
 }
 
@@ -113,14 +118,15 @@ fn sign_fault(place: usize, error: SignMessageError) -> StreamFault
     match error {
         SignMessageError::FailedToEncodeMessage(error) => fault_at(place, error.kind()),
         SignMessageError::MomentOutOfRange(moment) => StreamFault::MomentOutOfRange(moment),
+        SignMessageError::NoMemory => StreamFault::NoMemory,
         _ => unreachable!(),
     }
 }
 
-// The fault for why the message at a place has no frame.
+// The fault for why the message at a place isn't written.
 fn fault_at(place: usize, reason: &ErrorKind) -> StreamFault
-    requires { IsFrameFault reason.now }
-    ensures { stream_ending result ≡ refused (fault_at place reason.now) }
+    requires { IsWriteFault reason.now }
+    ensures { stream_ending result ≡ write_ending place reason.now }
 {
     match reason {
         ErrorKind::InvalidHeaderNameLength => StreamFault::InvalidHeaderNameLength(place),
@@ -129,20 +135,22 @@ fn fault_at(place: usize, reason: &ErrorKind) -> StreamFault
         ErrorKind::HeadersTooLong => StreamFault::HeadersTooLong(place),
         ErrorKind::PayloadTooLong => StreamFault::PayloadTooLong(place),
         ErrorKind::MessageTooLong => StreamFault::MessageTooLong(place),
+        ErrorKind::NoMemory => StreamFault::NoMemory,
         _ => unreachable!(),
     }
 }
 
-/// Writes the bytes of a frame in a form, in one piece.
+/// Writes the bytes of a frame in a form, in one piece. Where that is a line it is made in `line`, in place of the bytes that were
+/// there.
 ///
 /// # Errors
 ///
 /// As those of [`write_text`].
 #[tactic(auto, using(smithy_core::proofs::GainLemmas::prefix_at_start), unfolding(crate::specs::Chain::frame_text))]
 pub fn write_frame<K: ByteSink>(
-    alloc: Global,
     frame: &[u8],
     form: Form,
+    line: &mut Vec<u8>,
     sink: &mut K,
 ) -> Result<(), StreamFault>
     ensures sends { Sends None (frame_text form frame.now) (K.held sink.old) (K.held sink.new) result }
@@ -151,11 +159,24 @@ pub fn write_frame<K: ByteSink>(
     match form {
         Form::Raw => write_text(sink, frame),
         Form::HexLines => {
-            let mut line = hex::encode(alloc, frame)?;
-            line.push('\n')?;
-            write_text(sink, line.as_bytes())
+            put_line(frame, line)?;
+            write_text(sink, line.as_slice())
         }
     }
+}
+
+// Puts the line of a frame in place of the bytes that were there.
+#[tactic(auto, unfolding(crate::specs::Chain::frame_text))]
+fn put_line(frame: &[u8], line: &mut Vec<u8>) -> Mem<()>
+    ensures { OnOk result (line.new.items ≡ frame_text Form.HexLines frame.now) }
+{
+    let Some(digits) = frame.len().checked_mul(2) else {
+        return Err(AllocError);
+    };
+    line.clear();
+    line.resize(digits, 0)?;
+    hex::encode_to_slice(frame, line.as_mut_slice()).unwrap();
+    Ok(line.push(b'\n')?)
 }
 
 /// Writes a text in one piece.

@@ -1,16 +1,16 @@
 //! The lines that show events: their frames in hexadecimal, and how many there are.
-ghost use Rattle.std.specs.Prelude.{◌≡◌, None, IfOk, IsErrOf};
+ghost use Rattle.std.specs.Prelude.{◌≡◌, None, IsErrOf};
 ghost use Rattle.smithy_core.specs.Outside.{CountsFault};
-ghost use Rattle.eventstream.specs.Frame.{frame, unframed};
+ghost use Rattle.eventstream.specs.Frame.{unframed};
 ghost use Rattle.signed_stream.specs.EventLines.{AreFramed, count_line, event_line, event_lines};
 ghost use Rattle.signed_stream.specs.Halt.{Sends};
 
 use crate::chain::{write_frame, write_text};
 use crate::form::Form;
 use crate::status::StreamFault;
-use eventstream::{ErrorKind, write_message_to};
-use smithy_core::{ByteSink, Mem, Message};
-use std::alloc::{AllocError, Global};
+use eventstream::frame_of;
+use smithy_core::{ByteSink, Message};
+use std::alloc::Global;
 
 /// Writes how many events there are.
 ///
@@ -40,34 +40,25 @@ pub fn write_lines<K: ByteSink>(
     ensures sends { Sends None (event_lines events.now) (K.held out.old) (K.held out.new) result }
     ensures counts { CountsFault (IsErrOf result StreamFault.SinkFault) (K.faults out.old) (K.faults out.new) }
 {
+    let mut line = Vec::new(alloc);
     'events: for event in events {
-        write_event(alloc, event, out)?;
+        write_event(alloc, event, &mut line, out)?;
     }
     Ok(())
 }
 
-// Writes the frame of an event, which has one.
+// Writes the frame of an event, which has one. Its line is made in `line`.
 #[tactic(auto, using(smithy_core::proofs::GainLemmas::prefix_at_start), unfolding(crate::specs::Chain::frame_text))]
-fn write_event<K: ByteSink>(alloc: Global, event: &Message, out: &mut K) -> Result<(), StreamFault>
+fn write_event<K: ByteSink>(
+    alloc: Global,
+    event: &Message,
+    line: &mut Vec<u8>,
+    out: &mut K,
+) -> Result<(), StreamFault>
     requires { unframed event.now ≡ None }
     ensures sends { Sends None (event_line event.now) (K.held out.old) (K.held out.new) result }
     ensures counts { CountsFault (IsErrOf result StreamFault.SinkFault) (K.faults out.old) (K.faults out.new) }
 {
     let frame = frame_of(alloc, event)?;
-    write_frame(alloc, frame.as_slice(), Form::HexLines, out)
-}
-
-// The frame of an event that has one.
-fn frame_of(alloc: Global, event: &Message) -> Mem<Vec<u8>>
-    requires { unframed event.now ≡ None }
-    ensures { IfOk result (λ bytes. bytes.items ≡ frame event.now) }
-{
-    let mut bytes = Vec::new(alloc);
-    match write_message_to(alloc, event, &mut bytes) {
-        Ok(()) => Ok(bytes),
-        Err(error) => match error.kind() {
-            ErrorKind::NoMemory => Err(AllocError),
-            _ => unreachable!(),
-        },
-    }
+    write_frame(frame.as_slice(), Form::HexLines, line, out)
 }

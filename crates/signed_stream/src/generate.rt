@@ -92,7 +92,7 @@ fn signer_of_request(alloc: Global) -> Mem<SigV4MessageSigner<()>>
     let request = HttpRequest::new(alloc, "POST", "https://gen.amazonaws.com/")?;
     let options = options_of_request(alloc)?;
     let identity = identity_of_request(alloc)?;
-    match sign_request(alloc, &request, &identity, REGION, &options, moment()) {
+    match sign_request(alloc, request, &identity, REGION, &options, moment()) {
         Ok((_, signer)) => Ok(signer),
         Err(fault) => Err(stream_without_memory(&fault)),
     }

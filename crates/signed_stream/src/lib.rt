@@ -22,7 +22,6 @@ mod form;
 mod generate;
 mod generator;
 mod laws;
-mod own_events;
 mod running;
 mod saying;
 mod settings;

@@ -17,7 +17,7 @@ use sigv4::{SigningError, SigningSettings};
 use smithy_core::{HttpRequest, Identity, Mem, Moment, Region, SigningName};
 use std::alloc::Global;
 
-/// A request, signed, and what signs the messages that follow it.
+/// The request, signed, and what signs the messages that follow it.
 ///
 /// # Errors
 ///
@@ -25,7 +25,7 @@ use std::alloc::Global;
 /// that fails, and [`StreamFault::NoMemory`] where memory runs out.
 pub fn sign_request(
     alloc: Global,
-    request: &HttpRequest,
+    request: HttpRequest,
     identity: &Identity,
     region: &str,
     options: &StreamOptions,
@@ -33,9 +33,9 @@ pub fn sign_request(
 ) -> Result<(HttpRequest, SigV4MessageSigner<()>), StreamFault>
     requires { IsCredentials identity.now }
     ensures { (form : _) → let wanted = stream_wanted options.now form in
-        SignsJob (request_moment wanted first) (identity_case request.now identity.now region.now wanted first) request.now result }
+        SignsJob (request_moment wanted first) (identity_case request identity.now region.now wanted first) request result }
 {
-    let mut signed = request.try_clone()?;
+    let mut signed = request;
     let config = SigV4OperationSigningConfig {
         region: Some(Region::new(String::from_str(alloc, region)?)),
         name: Some(SigningName::new(options.name.clone()?)),

@@ -16,7 +16,7 @@ ghost use Rattle.signed_stream.specs.Status.{could_not_read_file, ending_of, out
 use crate::command::StreamWords;
 use crate::sources::load_source;
 use crate::status::{Status, StreamFault, status_of};
-use crate::streaming::{StreamOptions, sign_and_send};
+use crate::streaming::{StreamOptions, send_owned};
 use env_config::Source;
 use job_text::{Job, ProfileTexts, copied};
 use smithy_core::{ByteSink, Clock, Disk, Env, FixedClock, HttpRequest, Mem, Message};
@@ -53,7 +53,7 @@ pub fn stream_job<D: Disk, C: Clock, K: ByteSink>(
     };
     match load_source(alloc, env, disk, &words.profile, texts) {
         Ok(source) => {
-            status_of(stream_source(alloc, &source, env, &request, events, words, clock, out))
+            status_of(stream_source(alloc, &source, env, request, events, words, clock, out))
         }
         Err(fault) => Status::from(fault),
     }
@@ -64,15 +64,15 @@ fn stream_source<C: Clock, K: ByteSink>(
     alloc: Global,
     source: &Source,
     env: &Env,
-    request: &HttpRequest,
+    request: HttpRequest,
     events: Vec<Message>,
     words: StreamWords<'_>,
     clock: &mut C,
     out: &mut K,
 ) -> Result<HttpRequest, StreamFault>
     ensures streams { let wanted = wanted_of words.entry in
-        TakesFor (OfClock (λ taken. Gives C.Clock clock.old taken clock.new) wanted.at) (string_bytes request.now.target)
-        (stream_plan (map file_of source.now.files.items) (string_bytes source.now.profile) env.now wanted (job_with request.now events.items)) (ended result) (K.held out.old) (K.held out.new) }
+        TakesFor (OfClock (λ taken. Gives C.Clock clock.old taken clock.new) wanted.at) (string_bytes request.target)
+        (stream_plan (map file_of source.now.files.items) (string_bytes source.now.profile) env.now wanted (job_with request events.items)) (ended result) (K.held out.old) (K.held out.new) }
     ensures counts { CountsFault (IsErrOf result StreamFault.SinkFault) (K.faults out.old) (K.faults out.new) }
 {
     let at = words.at;
@@ -82,7 +82,7 @@ fn stream_source<C: Clock, K: ByteSink>(
     match at {
         Some(at) => {
             let mut fixed = FixedClock::new(at);
-            sign_and_send(
+            send_owned(
                 alloc,
                 source,
                 env,
@@ -96,7 +96,7 @@ fn stream_source<C: Clock, K: ByteSink>(
             )
         }
         None => {
-            sign_and_send(
+            send_owned(
                 alloc,
                 source,
                 env,

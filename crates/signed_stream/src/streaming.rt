@@ -106,7 +106,6 @@ pub fn sign_and_stream<C: Clock, K: ByteSink>(
 /// # Errors
 ///
 /// As those of [`sign_and_stream`].
-#[tactic(auto, unfolding(crate::specs::Settings::settings))]
 pub fn sign_and_send<C: Clock, K: ByteSink>(
     alloc: Global,
     source: &Source,
@@ -124,6 +123,35 @@ pub fn sign_and_send<C: Clock, K: ByteSink>(
         (K.held sink.old) (K.held sink.new) }
     ensures counts { CountsFault (IsErrOf result StreamFault.SinkFault) (K.faults sink.old) (K.faults sink.new) }
 {
+    let request = request.try_clone()?;
+    send_owned(
+        alloc, source, env, request, options, events, clock, form, sink, moments,
+    )
+}
+
+/// Signs a request and streams its events as [`sign_and_send`] does, without a copy of the request: its headers are there once.
+///
+/// # Errors
+///
+/// As those of [`sign_and_stream`].
+#[tactic(auto, unfolding(crate::specs::Settings::settings))]
+pub fn send_owned<C: Clock, K: ByteSink>(
+    alloc: Global,
+    source: &Source,
+    env: &Env,
+    request: HttpRequest,
+    options: &StreamOptions,
+    events: Vec<Message>,
+    clock: &mut C,
+    form: Form,
+    sink: &mut K,
+    moments: &mut Vec<Moment>,
+) -> Result<HttpRequest, StreamFault>
+    ensures streams { SignsAndStreams (λ taken. Gives C.Clock clock.old taken clock.new) moments.old.items moments.new.items
+        (map file_of source.now.files.items) (string_bytes source.now.profile) env.now (stream_wanted options.now form) request events.items result
+        (K.held sink.old) (K.held sink.new) }
+    ensures counts { CountsFault (IsErrOf result StreamFault.SinkFault) (K.faults sink.old) (K.faults sink.new) }
+{
     let settings = read_settings(alloc, source, env, lent(&options.service_id))?;
     stream_selected(
         alloc, settings, request, options, events, clock, form, sink, moments,
@@ -134,7 +162,7 @@ pub fn sign_and_send<C: Clock, K: ByteSink>(
 fn stream_selected<C: Clock, K: ByteSink>(
     alloc: Global,
     settings: Settings,
-    request: &HttpRequest,
+    request: HttpRequest,
     options: &StreamOptions,
     events: Vec<Message>,
     clock: &mut C,
@@ -142,10 +170,10 @@ fn stream_selected<C: Clock, K: ByteSink>(
     sink: &mut K,
     moments: &mut Vec<Moment>,
 ) -> Result<HttpRequest, StreamFault>
-    ensures streams { Streams (λ taken. GivesEach C.Clock clock.old taken clock.new) moments.old.items moments.new.items (string_bytes request.now.target)
-        (λ target taken. selected_plan (job_with request.now events.items) (stream_wanted options.now form) target taken (selected_in settings))
+    ensures streams { Streams (λ taken. GivesEach C.Clock clock.old taken clock.new) moments.old.items moments.new.items (string_bytes request.target)
+        (λ target taken. selected_plan (job_with request events.items) (stream_wanted options.now form) target taken (selected_in settings))
         (ended result) (K.held sink.old) (K.held sink.new) }
-    ensures signed { IfOk result (IsSentSigned (job_with request.now events.items) (stream_wanted options.now form) (selected_in settings) request.now moments.old.items moments.new.items) }
+    ensures signed { IfOk result (IsSentSigned (job_with request events.items) (stream_wanted options.now form) (selected_in settings) request moments.old.items moments.new.items) }
     ensures counts { CountsFault (IsErrOf result StreamFault.SinkFault) (K.faults sink.old) (K.faults sink.new) }
 {
     let identity = Identity::Credentials(settings.credentials);

@@ -11,8 +11,8 @@ pub returns-in-Ok : goal.returns-in-Ok
 unfolding chosen
 returns-in-Ok c = λ form.
     let asked = record (stream_wanted c.args.options.now form) { signing = c.in_ok-try_clone.field-0 } in
-    signed_as_asked c.args.request.now c.in_ok-signed.signed c.args.identity.now c.args.region.now (stream_wanted c.args.options.now form) c.args.first c.in_ok-try_clone.field-0 c.in_ok-try_clone.ensures
-    c.in_ok-signed.ensures.method c.in_ok-signed.ensures.target c.in_ok-signed.ensures.headers c.in_ok-signed.ensures.body
+    signed_as_asked c.args.request c.args.request c.args.identity.now c.args.region.now (stream_wanted c.args.options.now form) c.args.first c.in_ok-try_clone.field-0 c.in_ok-try_clone.ensures
+    refl refl refl refl
     c.sign_http_request.new.request c.in-Ok.signature c.requires (ap string_bytes c.in-Ok.ensures.method) c.in-Ok.ensures.body
     (signed_job _ _ _ _ asked c.args.region.now c.args.first _
     (record {
@@ -56,5 +56,5 @@ returns-in-Err c = λ form.
     rw c.in_ok-asked.ensures at given)
     c.sign_http_request.new.request _ c.in-Err.ensures.signs in
     rw c.fault_of.ensures
-    (unsigned_as_asked c.args.request.now c.in_ok-signed.signed c.args.identity.now c.args.region.now (stream_wanted c.args.options.now form) c.args.first c.in_ok-try_clone.field-0 c.in_ok-try_clone.ensures
-    c.in_ok-signed.ensures.method c.in_ok-signed.ensures.target c.in_ok-signed.ensures.headers c.in_ok-signed.ensures.body _ told.1)
+    (unsigned_as_asked c.args.request c.args.request c.args.identity.now c.args.region.now (stream_wanted c.args.options.now form) c.args.first c.in_ok-try_clone.field-0 c.in_ok-try_clone.ensures
+    refl refl refl refl _ told.1)
