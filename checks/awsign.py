@@ -256,7 +256,17 @@ def manners(at):
         says(f"{words} without a word", "cat said", 0)
         says(f"{words} to a full device", f"awsign {words} > /dev/full", 3, "", "awsign: the output failed")
     says("a file that isn't there", f"awsign sign PUT {at}/b/k --s3 -H 'x-a: --data' --data 'no where'", 3, "", "could not read the file that --data names: no where\n")
-    says("a key that isn't there", f"env -u AWS_ACCESS_KEY_ID awsign sign PUT {at}/b/k --s3", 1, "", "the profile 'default' aws_access_key_id and aws_secret_access_key; awsign settings says")
+    both, key = f"{os.getcwd()}/.aws/config, {os.getcwd()}/.aws/credentials", "aws_access_key_id and aws_secret_access_key"
+    for words, profile, files in (("", "default", both), ("--profile work", "work", both), ("--config bare", "default", "bare"), ("--credentials bare", "default", "bare"),
+                                  ("--config bare --credentials /dev/null", "default", "bare, /dev/null")):
+        for command in (f"sign PUT {at}/b/k --s3", f"verify GET {at}/b/k --s3", f"chunk PUT {at}/b/k --s3 --data word --out kept",
+                        f"events verify --service x --seed {'0' * 64}", "settings"):
+            says(f"{command} {words} without a key", f"echo '[other]' > bare; env -u AWS_ACCESS_KEY_ID awsign {command} {words}", 1, "not set" if command == "settings" else "",
+                 f"awsign: no key: set AWS_ACCESS_KEY_ID and AWS_SECRET_ACCESS_KEY, which don't count beside --profile, or give the profile '{profile}' {key}; looked in {files}\n")
+    for command in (f"sign PUT {at}/b/k", f"presign PUT {at}/b/k --expires 10m", f"verify GET {at}/b/k", f"chunk PUT {at}/b/k --data word --out kept", f"events verify --seed {'0' * 64}"):
+        says(f"{command} for an empty region", f"awsign {command} --service x --region ''", 1, "", "awsign: the region is empty: give --region a name, or leave it out\n")
+        says(f"{command} for an empty service", f"awsign {command} --service ''", 1, "", "awsign: the service's name is empty: give --service a name, or leave it out\n")
+    says("settings of an empty region", "awsign settings --region ''", 1, "region\t\t--region\n", "awsign: the region is empty: ")
     says("a region that isn't there", f"env -u AWS_REGION awsign sign PUT {at}/b/k --s3", 1, "", "the profile 'default' a region; awsign settings says")
     shown = on_terminal(f"awsign sign PUT {at}/b/big --s3 --data big > said")
     if BIG and (re.sub(rb"\rawsign: \d+ MiB read", b"", shown).strip(b" \r") or shown.count(b"MiB read") != (BIG - 1) // (1 << 26)):

@@ -35,7 +35,7 @@ use Rattle.aws_signing.specs.declared.fault.AwsSigningError.TheVariants.{EmptyKe
 
 -- ## A signer
 
--- who signs, with the key that is kept, and how requests are signed in their headers
+-- who signs, with the key that is kept, and how requests are signed
 pub record SigningState : Type 0 where
   pub holder : HeldKey
   pub settings : Settings
@@ -68,7 +68,7 @@ signer_kept by at = record by { holder = key_kept by.holder at }
 
 -- ## What is signed
 
--- the settings in header form, or where the signature goes into a query that is good for so many seconds
+-- the settings as they are, or where the signature goes into a query that is good for so many seconds
 abbrev pub in_form : Settings → Option ℕ → Settings
 in_form settings None = settings
 in_form settings (Some seconds) = record settings { signature_location = QueryParams; expires_in = Some seconds }
@@ -92,9 +92,9 @@ signer_case by method headers payload seconds at target = record {
   at = at;
 }
 
--- the case of a request in header form, with this text for its payload, if one is given
-abbrev pub header_case : SigningState → HttpRequest → Option (List ℕ) → Instant → Target → Case
-header_case by request payload at = signer_case by (string_bytes request.method) request.headers (given_payload payload request.body) None at
+-- the case of a request in the form of the signer's settings, with this text for its payload, if one is given
+abbrev pub settings_case : SigningState → HttpRequest → Option (List ℕ) → Instant → Target → Case
+settings_case by request payload at = signer_case by (string_bytes request.method) request.headers (given_payload payload request.body) None at
 
 -- ## What signing promises
 

@@ -42,7 +42,7 @@ unfit_upload content size trailers =
     option_or (unfit_sizes content size) (option_or (option_map Signing (unfit_headers 1 trailers))
     (option_map Unannounced (unannounced (upload_options content size trailers) trailers)))
 
--- the case of the request that an upload follows, in header form: its headers announce the upload, and what they announce is signed in place of a digest
+-- the case of the request that an upload follows: its headers announce the upload, and what they announce is signed in place of a digest
 abbrev pub upload_case : SigningState → HttpRequest → List ℕ → ℕ → List Trailer → Instant → Target → Case
 upload_case by request content size trailers at =
     signer_case by (string_bytes request.method) (announced_headers (upload_options content size trailers) trailers request.headers) (announced_payload true trailers) None at

@@ -29,7 +29,10 @@ pub use aws_settings::{AwsSettings, EnvConfigParseError, SettingsFault};
 pub use bytes::Bytes;
 pub use chain_watch::{ChainFault, Watched};
 pub use request_door::{Admitted, DoorFault, DoorPayload, ErrorCode, KeyList, Keys, Limits};
-pub use sigv4::SigningError;
+pub use sigv4::{
+    PayloadChecksumKind, PercentEncodingMode, SessionTokenMode, SignatureLocation, SigningError,
+    SigningSettings, UriPathNormalizationMode,
+};
 pub use smithy_core::{
     Clock, Credentials, Disk, Env, FixedClock, Header, HeaderValue, Headers, HostDisk, HttpRequest,
     Message, Moment, StrBytes, SystemClock,

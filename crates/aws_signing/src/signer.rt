@@ -7,7 +7,7 @@ ghost use Rattle.sigv4.specs.Request.{identity_of};
 ghost use Rattle.sigv4.specs.RequestSigning.{IsRequestKey};
 ghost use Rattle.sigv4.specs.Settings.{default_settings, s3_settings, settings_of};
 ghost use Rattle.sigv4.specs.SigningParams.{params_time};
-ghost use Rattle.aws_signing.specs.SigningBy.{MakesSigner, SignsBy, SignsRequestBy, SignsText, TestsTexts, given_payload, header_case, in_form, signer_case, signer_kept, text_case};
+ghost use Rattle.aws_signing.specs.SigningBy.{MakesSigner, SignsBy, SignsRequestBy, SignsText, TestsTexts, given_payload, settings_case, in_form, signer_case, signer_kept, text_case};
 
 use crate::fault::AwsSigningError;
 use crate::key_holder::KeyHolder;
@@ -71,11 +71,8 @@ impl Signer {
     ) -> Result<Signer, AwsSigningError>
         ensures { MakesSigner credentials.now region.now name.now default_settings result }
     {
-        test_texts(credentials, region, name)?;
-        Ok(Signer {
-            holder: KeyHolder::new(alloc, credentials, region, name)?,
-            settings: SigningSettings::new(alloc)?,
-        })
+        let settings = SigningSettings::new(alloc)?;
+        Signer::with_settings(alloc, credentials, region, name, settings)
     }
 
     /// A signer of requests to Amazon S3, whose paths are escaped once and stay as they are, and whose payloads have their text in
@@ -97,14 +94,45 @@ impl Signer {
     ) -> Result<Signer, AwsSigningError>
         ensures { MakesSigner credentials.now region.now (codes "s3") s3_settings result }
     {
-        test_texts(credentials, region, S3_NAME)?;
+        let settings = SigningSettings::for_s3(alloc)?;
+        Signer::with_settings(alloc, credentials, region, S3_NAME, settings)
+    }
+
+    /// A signer as [`Signer::new`] makes one, but by settings of one's own. A usual URL is that of [`Signer::presign`]; this is for
+    /// a URL with headers or another expiry, and for any other form: where the settings put the signature into the query,
+    /// [`Signer::sign`] and [`Signer::sign_with_payload_hash`] do.
+    ///
+    /// ```rust
+    /// let settings = SigningSettings {
+    ///     signature_location: SignatureLocation::QueryParams,
+    ///     expires_in: Some(2_592_000),
+    ///     ..SigningSettings::for_s3(alloc)?
+    /// };
+    /// let mut signer = Signer::with_settings(alloc, &credentials, "us-east-1", "s3", settings)?;
+    /// signer.sign_with_payload_hash(&mut request, "UNSIGNED-PAYLOAD", clock.now())?;
+    /// ```
+    ///
+    /// # Errors
+    ///
+    /// Those of [`Signer::new`].
+    pub fn with_settings(
+        alloc: Global,
+        credentials: &Credentials,
+        region: &str,
+        name: &str,
+        settings: SigningSettings,
+    ) -> Result<Signer, AwsSigningError>
+        ensures { MakesSigner credentials.now region.now name.now (settings_of settings) result }
+    {
+        test_texts(credentials, region, name)?;
         Ok(Signer {
-            holder: KeyHolder::new(alloc, credentials, region, S3_NAME)?,
-            settings: SigningSettings::for_s3(alloc)?,
+            holder: KeyHolder::new(alloc, credentials, region, name)?,
+            settings,
         })
     }
 
-    /// Signs a request in its headers, with the bytes of its body, at a moment, and answers the signature.
+    /// Signs a request in its headers, with the bytes of its body, at a moment, and answers the signature. A signer that was made
+    /// [by settings](Signer::with_settings) signs in the form that these name.
     ///
     /// ```rust
     /// let mut request = HttpRequest::new(alloc, "POST", "https://sqs.us-east-1.amazonaws.com/")?;
@@ -118,7 +146,7 @@ impl Signer {
     /// [`AwsSigningError::Signing`] with the first of these, and the request stays as it is: the moment lies outside the years 0
     /// to 9999; the target isn't accepted; and then as [`sigv4::sign`] has them.
     pub fn sign(&mut self, request: &mut HttpRequest, at: Moment) -> Result<String, AwsSigningError>
-        ensures signs { SignsRequestBy (header_case self.old request.old None at) at (string_bytes request.old.target) request.new result }
+        ensures signs { SignsRequestBy (settings_case self.old request.old None at) at (string_bytes request.old.target) request.new result }
         ensures method { request.new.method ≡ request.old.method }
         ensures body { request.new.body ≡ request.old.body }
         ensures err { OnErr result (request.new ≡ request.old) }
@@ -145,7 +173,7 @@ impl Signer {
         payload_hash: &str,
         at: Moment,
     ) -> Result<String, AwsSigningError>
-        ensures signs { SignsRequestBy (header_case self.old request.old (Some payload_hash.now) at) at (string_bytes request.old.target) request.new result }
+        ensures signs { SignsRequestBy (settings_case self.old request.old (Some payload_hash.now) at) at (string_bytes request.old.target) request.new result }
         ensures method { request.new.method ≡ request.old.method }
         ensures body { request.new.body ≡ request.old.body }
         ensures err { OnErr result (request.new ≡ request.old) }
@@ -154,7 +182,8 @@ impl Signer {
         Ok(self.sign_case(request, Some(payload_hash), None, at)?)
     }
 
-    // Signs a request, with this text for its payload, if one is given, and in query form for so many seconds, if these are given.
+    // Signs a request, with this text for its payload, if one is given, and in query form for so many seconds, if these are given, or
+    // else in the form of the settings.
     // The request changes last, all or nothing.
     pub(crate) fn sign_case(
         &mut self,
@@ -203,8 +232,8 @@ impl Signer {
     }
 }
 
-// The settings in header form, or where the signature goes into a query that is good for so many seconds. Their texts are taken
-// out of those at hand.
+// The settings as they are, or where the signature goes into a query that is good for so many seconds. Their texts are taken out of
+// those at hand.
 fn settings_lent(settings: &mut SigningSettings, seconds: Option<u64>) -> SigningSettings
     ensures lent { settings_of result ≡ in_form (settings_of settings.old) seconds }
     ensures names { result.excluded_headers ≡ settings.old.excluded_headers }

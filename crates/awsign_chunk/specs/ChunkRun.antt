@@ -4,8 +4,7 @@ use Rattle.smithy_core.specs.Moment.{Instant}
 use Rattle.smithy_core.specs.Outside.{Gains, GainsProperPrefix, IsAllOf, IsLongerThan}
 use Rattle.smithy_core.specs.declared.outside.read_all.ReadFault.{ReadFault}
 use Rattle.smithy_core.specs.declared.outside.read_all.ReadFault.TheVariants as read
-use Rattle.env_config.specs.Sections.{FileText, sections}
-use Rattle.aws_settings.specs.Choice.{profile_of}
+use Rattle.env_config.specs.Sections.{FileText}
 use Rattle.awsign_run.specs.Chosen.{SignRefusal, SignsFor, asked_profile, signer_by}
 use Rattle.awsign_run.specs.Guess.{url_host}
 use Rattle.awsign_run.specs.declared.status.Status.TheVariants.{CouldNotReadFile, DataFault, Done, NoMemory, OutputFault}
@@ -48,7 +47,7 @@ IsFileStatus unread status = ⊥
 
 -- who is chosen, by options, variables and the texts of profile files
 abbrev pub sent_signer : SignWanted → List (List ℕ × List ℕ) → List FileText → Result SignsFor SignRefusal
-sent_signer wanted env files = signer_by wanted.options (url_host wanted.url) env (profile_of (sections files) (asked_profile wanted.options env))
+sent_signer wanted env files = signer_by wanted.options (url_host wanted.url) env (asked_profile wanted.options env) files
 
 module _ (moment : Instant → Type 0) (env : List (List ℕ × List ℕ)) where
   -- the upload of data with texts of profile files, at a moment that `moment` tells of

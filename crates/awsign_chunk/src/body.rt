@@ -12,7 +12,7 @@ ghost use Rattle.aws_chunked.specs.SoundBody.{IsSoundBody, IsSoundBodyOf, text_l
 use aws_auth::SigV4MessageSigner;
 use aws_chunked::parts::{frames_in_memory, next_in_memory};
 use aws_chunked::{AwsChunkedBody, AwsChunkedBodyOptions};
-use awsign_run::Signer;
+use awsign_run::Chosen;
 use bytes::Bytes;
 use sigv4::{SignChunk, SigningSettings};
 use smithy_core::{CalmFrames, FrameSource, Headers, Identity, Mem, Moment, Region, SigningName};
@@ -27,7 +27,7 @@ pub(crate) type Chunks = AwsChunkedBody<CalmFrames, ChunkSigner>;
 /// Signs chunks from a signature on, at a moment.
 pub(crate) fn chunk_signer(
     alloc: Global,
-    signer: Signer,
+    signer: Chosen,
     signature: String,
     at: Moment,
 ) -> Mem<ChunkSigner>

@@ -9,7 +9,7 @@ use crate::body::{all_text, body_of, chunk_signer};
 use crate::status::ChunkStatus;
 use crate::trailers::sent_trailers;
 use aws_chunked::AwsChunkedBodyOptions;
-use awsign_run::{Signer, printed_request, signed_request};
+use awsign_run::{Chosen, printed_request, signed_request};
 use awsign_words::Asked;
 use job_text::ChunkSize;
 use sigv4::parts::test_headers;
@@ -37,7 +37,7 @@ pub(crate) struct Announced<'a> {
 pub(crate) fn upload_for(
     alloc: Global,
     asked: &Asked<'_>,
-    signer: Signer,
+    signer: Chosen,
     content: Vec<u8>,
     at: Moment,
 ) -> Result<ChunkedUpload, ChunkStatus>
@@ -119,7 +119,7 @@ fn with_headers<'a>(asked: &Asked<'a>, headers: Headers) -> Mem<Asked<'a>>
 fn sign_upload(
     alloc: Global,
     announced: Announced<'_>,
-    signer: Signer,
+    signer: Chosen,
     content: Vec<u8>,
     trailers: Headers,
     at: Moment,
@@ -129,7 +129,7 @@ fn sign_upload(
     ensures { (wanted : SignWanted) → IsAnnouncedAs wanted (length content.items) trailers announced.entry
         → MakesSent wanted content.items trailers (signs_for_of signer) at result }
 {
-    let copy = signer_copy(&signer)?;
+    let copy = signer.try_clone()?;
     let Announced {
         asked,
         payload,
@@ -157,7 +157,7 @@ fn sign_upload(
 fn body_behind(
     alloc: Global,
     signature: String,
-    signer: Signer,
+    signer: Chosen,
     options: AwsChunkedBodyOptions,
     content: Vec<u8>,
     trailers: Headers,
@@ -171,15 +171,4 @@ fn body_behind(
     let signer = chunk_signer(alloc, signer, signature, at)?;
     let body = body_of(alloc, content, trailers, options, signer)?;
     all_text(alloc, body)
-}
-
-// Another signer with the same key, for the same region and service.
-fn signer_copy(signer: &Signer) -> Mem<Signer>
-    ensures { IfOk result (λ copy. signs_for_of copy ≡ signs_for_of signer.now) }
-{
-    Ok(Signer {
-        credentials: signer.credentials.try_clone()?,
-        region: signer.region.clone()?,
-        service: signer.service.clone()?,
-    })
 }

@@ -2,7 +2,6 @@
 use Rattle.std.specs.Prelude.{ℕ}
 use Rattle.job_text.specs.declared.fault.JobFault.{JobFault}
 use Rattle.job_text.specs.declared.fault.JobFault.TheVariants as job
-use Rattle.aws_settings.specs.declared.fault.SettingsFault.TheVariants.{Profile}
 use Rattle.awsign_run.specs.declared.fault.Fault.{Fault}
 use Rattle.awsign_run.specs.declared.fault.Fault.TheVariants as run
 use Rattle.chain_watch.specs.declared.chain_fault.ChainFault.{ChainFault}
@@ -50,7 +49,7 @@ line_status job.NoMemory = NoMemory
 
 -- how a run ends whose profile files aren't loaded
 abbrev pub load_events_status : EnvConfigFileLoadError → EventsStatus
-load_events_status (load.ParseError error) = Refused (run.Settings (Profile error))
+load_events_status (load.ParseError error) = Refused (run.Profile error)
 load_events_status (load.CouldNotReadFile fault) = CouldNotReadFile fault.path
 load_events_status load.NoMemory = NoMemory
 

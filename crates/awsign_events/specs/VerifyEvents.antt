@@ -8,8 +8,7 @@ use Rattle.smithy_core.specs.TextPairs.{last_value}
 use Rattle.eventstream.specs.Key.{Signer}
 use Rattle.chain_watch.specs.Walk.{Walk, ending, seed_point, walk}
 use Rattle.chain_watch.specs.Watch.{new_watch, state}
-use Rattle.env_config.specs.Sections.{FileText, sections}
-use Rattle.aws_settings.specs.Choice.{profile_of}
+use Rattle.env_config.specs.Sections.{FileText}
 use Rattle.awsign_words.specs.EventWords.{asked_event_form}
 use Rattle.awsign_words.specs.Words.{OptionValues}
 use Rattle.awsign_words.specs.declared.events.EventForm.{EventForm}
@@ -91,7 +90,7 @@ VerifiesBy options (Err refusal) all left status before now = LacksSigner refusa
 
 -- who signs, by options, variables and the texts of profile files; there is no host that would name the service
 abbrev pub chain_signer : OptionValues → List (List ℕ × List ℕ) → List FileText → Result SignsFor SignRefusal
-chain_signer options env files = signer_by options [] env (profile_of (sections files) (asked_profile options env))
+chain_signer options env files = signer_by options [] env (asked_profile options env) files
 
 -- a profile file couldn't be read, at a path that `unread` tells of, or memory ran out
 abbrev pub LacksFiles : (List ℕ → Type 0) → EventsStatus → Type 0

@@ -1,5 +1,4 @@
 //! How a run ends.
-use aws_settings::SettingsFault;
 use awsign_run::Fault;
 use chain_watch::ChainFault;
 use env_config::EnvConfigFileLoadError;
@@ -21,7 +20,7 @@ pub enum EventsStatus {
     Unspelled(u64),
     /// A frame isn't the next one of the chain, or the chain isn't whole.
     Unverified(ChainFault),
-    /// There is no key, no region or no service.
+    /// There is no key, no region or no service, or it is empty.
     Refused(Fault),
     /// The profile file at this path, which an option names, is absent, or the disk failed.
     CouldNotReadFile(String),
@@ -129,7 +128,7 @@ impl From<EnvConfigFileLoadError> for EventsStatus {
     fn from(fault: EnvConfigFileLoadError) -> EventsStatus {
         match fault {
             EnvConfigFileLoadError::ParseError(error) => {
-                EventsStatus::Refused(Fault::Settings(SettingsFault::Profile(error)))
+                EventsStatus::Refused(Fault::Profile(error))
             }
             EnvConfigFileLoadError::CouldNotReadFile(fault) => {
                 EventsStatus::CouldNotReadFile(fault.path)

@@ -14,7 +14,7 @@ ghost use Rattle.awsign_events.specs.VerifyEvents.{EndsVerifying, IsNewVerifier,
 
 use crate::decode::{MOST_PIECE, write_message};
 use crate::status::EventsStatus;
-use awsign_run::{Signer, load_source, signer_for};
+use awsign_run::{Chosen, load_source, signer_for};
 use awsign_words::{EventForm, EventsAsked};
 use bytes::Bytes;
 use chain_watch::ChainWatch;
@@ -89,7 +89,7 @@ fn verify_by_files<S: ByteSource, K: ByteSink>(
 fn verify_chain<S: ByteSource, K: ByteSink>(
     alloc: Global,
     asked: &EventsAsked,
-    signer: &Signer,
+    signer: &Chosen,
     input: &mut S,
     out: &mut K,
 ) -> EventsStatus
@@ -119,7 +119,7 @@ fn seed_asked(options: &Env) -> &str
 
 impl Verifier {
     // Nothing was read.
-    fn new(alloc: Global, seed: &str, signer: &Signer) -> Mem<Verifier>
+    fn new(alloc: Global, seed: &str, signer: &Chosen) -> Mem<Verifier>
         ensures { IfOk result (λ verifier. IsNewVerifier (frames_signer (signs_for_of signer.now)) seed.now verifier) }
     {
         let secret = signer.credentials.secret_access_key();

@@ -6,8 +6,7 @@ use Rattle.smithy_core.specs.Moment.{Instant}
 use Rattle.smithy_core.specs.TextPairs.{last_value}
 use Rattle.smithy_http.specs.Target.{Target}
 use Rattle.sigv4.specs.Request.{Case}
-use Rattle.env_config.specs.Sections.{FileText, sections}
-use Rattle.aws_settings.specs.Choice.{profile_of}
+use Rattle.env_config.specs.Sections.{FileText}
 use Rattle.awsign_run.specs.Chosen.{IsFaultOf, SignRefusal, SignsFor, asked_profile, signer_by}
 use Rattle.awsign_run.specs.Signing.{IsPrinted, PrintsFor, PrintsSigned, SignsAsked, SignsPrinted, is_long}
 use Rattle.awsign_words.specs.Words.{SignWanted}
@@ -33,7 +32,7 @@ long_refused sign_wanted env files digest at long = rw long (inl refl)
 
 module _ (sign_wanted : SignWanted) (env : List (List ℕ × List ℕ)) (files : List FileText) (digest : Option (List ℕ)) (at : Instant) (short : is_long sign_wanted.options ≡ false) where
   abbrev signs_by : Result SignsFor SignRefusal
-  signs_by = signer_by sign_wanted.options (url_host sign_wanted.url) env (profile_of (sections files) (asked_profile sign_wanted.options env))
+  signs_by = signer_by sign_wanted.options (url_host sign_wanted.url) env (asked_profile sign_wanted.options env) files
 
   -- what somebody signs is printed
   pub by_signer : (signer : SignsFor) (result : Result (Vec ℕ) Fault) → signs_by ≡ Ok signer → PrintsFor sign_wanted (Ok signer) digest at result → PrintsSigned sign_wanted env files digest at result

@@ -1,87 +1,130 @@
 -- The signed request of words.
-use Rattle.std.proofs.Common.{◌≡◌, ℕ, ◌⊎◌, inl, inr, List, refl, sym, ap₂, subst, ◌∙◌}
+use Rattle.std.proofs.Common.{◌≡◌, ◌<◌, ℕ, ◌⊎◌, inl, inr, List, [], ◌∷◌, Option, Some, None, length, refl, ap, subst, arith, ◌∙◌}
 use Rattle.std.specs.Prelude.{Result, Ok, Err, String, string_bytes}
-use Rattle.std.specs.Borrow.{Bor}
+use Rattle.std.specs.Option.{option_or}
 use Rattle.std.specs.declared.alloc.Global.{Global}
 use Rattle.http_uri.specs.declared.uri.Uri.{Uri}
+use Rattle.smithy_core.proofs.PairLemmas.{option_or_assoc}
+use Rattle.smithy_core.specs.Identity.{access_key_id, secret_access_key}
 use Rattle.smithy_core.specs.Moment.{Instant}
-use Rattle.smithy_core.specs.declared.identity.Credentials.{Credentials as Keys}
-use Rattle.smithy_core.specs.declared.identity.Identity.{Identity}
-use Rattle.smithy_core.specs.declared.identity.Identity.TheVariants.{Credentials as OfCredentials}
 use Rattle.smithy_core.specs.declared.request.HttpRequest.{HttpRequest}
-use Rattle.smithy_http.specs.QueryWriter.{SpellsNoTarget, SpellsTarget}
+use Rattle.smithy_http.specs.QueryWriter.{ReadsTarget, SpellsTarget}
 use Rattle.smithy_http.specs.Target.{Target, target_of}
-use Rattle.sigv4.specs.Params.{params_of}
-use Rattle.sigv4.specs.Request.{Case, identity_of}
-use Rattle.sigv4.specs.Settings.{settings_of}
+use Rattle.smithy_http.specs.declared.uri_fault.UriFault.{UriFault}
+use Rattle.smithy_http.specs.declared.uri_fault.UriFault.TheVariants as target
+use Rattle.sigv4.specs.ChunkTold.{unsigned_chunk_at}
+use Rattle.sigv4.specs.Error.{target_error}
+use Rattle.sigv4.specs.Refusal.{unfit, unfit_signed_target}
+use Rattle.sigv4.specs.Request.{Case}
+use Rattle.sigv4.specs.Signed.{signature_of, signed_headers, signed_target}
 use Rattle.sigv4.specs.declared.error.SigningError.{SigningError}
 use Rattle.sigv4.specs.declared.error.SigningError.TheVariants.{NoMemory as SignedNoMemory}
-use Rattle.sigv4.specs.declared.params.SigningParams.{SigningParams as V4Params}
-use Rattle.sigv4.specs.declared.settings.SigningSettings.{SigningSettings}
-use Rattle.sigv4.specs.declared.signing_params.SigningParams.{SigningParams}
-use Rattle.sigv4.specs.declared.signing_params.SigningParams.TheVariants.{V4}
+use Rattle.aws_signing.specs.SigningBy.{IsSignedRequestBy, RefusesBy, SigningState, first_empty, settings_case, unless_filled}
+use Rattle.aws_signing.specs.declared.fault.AwsSigningError.{AwsSigningError}
+use Rattle.aws_signing.proofs.SpelledLemmas.{refused_for, signed_for}
 use Rattle.awsign_run.specs.Chosen.{refusal_of, signs_for_of, unsigned}
 use Rattle.awsign_run.specs.Faults.{signing_fault}
-use Rattle.awsign_run.specs.InPlace.{HasSigned, SignsInPlace, in_place_refusal, in_place_case}
-use Rattle.awsign_run.specs.Signing.{IsAsked, SignsAsked, asked_case, asked_refusal, asked_settings, is_s3}
+use Rattle.awsign_run.specs.Signing.{IsAsked, RefusesUrl, SignsAsked, SignsUrl, asked_case, asked_refusal, asked_settings, chosen_signer, is_s3}
 use Rattle.awsign_words.specs.Words.{SignWanted}
-use Rattle.awsign_run.specs.declared.chosen.Signer.{Signer}
+use Rattle.awsign_run.specs.declared.chosen.Chosen.{Chosen}
 use Rattle.awsign_run.specs.declared.signing.SignedRequest.{SignedRequest}
 use Rattle.awsign_run.specs.declared.fault.Fault.{Fault}
 use Rattle.awsign_run.specs.declared.fault.Fault.TheVariants.{NoMemory}
+
+-- ## Faults
 
 -- an error of signing is told, or memory ran out
 told : (error : SigningError) → (refusal_of (signing_fault error) ≡ unsigned error) ⊎ (signing_fault error ≡ NoMemory)
 told SignedNoMemory = inr refl
 told error = inl refl
 
--- the signed request, or the fault of the error
-abbrev pub signed_or : HttpRequest → Result (Uri × String Global) SigningError → Result SignedRequest Fault
-signed_or new (Ok made) = Ok (record { request = new; uri = made.0; signature = made.1 })
-signed_or new (Err error) = Err (signing_fault error)
+-- a URL that isn't read
+pub url_unread : (url : List ℕ) (case : Target → Case) (fault : UriFault) → ReadsTarget url (Err fault) → RefusesUrl url case (signing_fault (target_error fault))
+url_unread url case target.InvalidUri none = inl (inr (none, refl))
+url_unread url case target.NoMemory none = inr refl
 
--- the case of the words is that of the request and its parameters
-case_same : (sign_wanted : SignWanted) (signer : Signer) (payload : List ℕ) (at : Instant) (request : HttpRequest) (settings : SigningSettings) (identity : Bor Identity) (region name : Bor (List ℕ)) (target : Target)
-    → IsAsked sign_wanted request → settings_of settings ≡ asked_settings sign_wanted (is_s3 sign_wanted.options (string_bytes signer.service))
-    → identity.now ≡ OfCredentials signer.credentials → region.now ≡ string_bytes signer.region → name.now ≡ string_bytes signer.service
-    → in_place_case request payload (V4 (params_of identity region name at settings)) target ≡ asked_case sign_wanted (signs_for_of signer) payload at target
-case_same sign_wanted signer payload at request settings identity region name target asked set who where_ what =
-    rw (asked.method, asked.headers, set, who, where_, what) refl
+text_filled : (text : List ℕ) (fault : AwsSigningError) → 0 < length text → unless_filled text fault ≡ None
+text_filled [] fault some = absurd (omega (arith, some))
+text_filled (byte ∷ bytes) fault some = refl
 
--- why a case of these credentials isn't signed
-refusal_same : (identity : Identity) (credentials : Keys) (c other : Case) → identity ≡ OfCredentials credentials → c ≡ other → in_place_refusal identity c ≡ asked_refusal other
-refusal_same identity credentials c other who same = ap₂ in_place_refusal who same
+-- no text of who is chosen is empty
+pub nothing_empty : (chosen : Chosen) → first_empty chosen.credentials (string_bytes chosen.region) (string_bytes chosen.service) ≡ None
+nothing_empty chosen =
+    rw (
+      text_filled (access_key_id chosen.credentials) _ chosen.has_key_id,
+      text_filled (secret_access_key chosen.credentials) _ chosen.has_secret,
+      text_filled (string_bytes chosen.region) _ chosen.has_region,
+      text_filled (string_bytes chosen.service) _ chosen.has_service,
+    ) refl
 
-module _ (sign_wanted : SignWanted) (signer : Signer) (payload : List ℕ) (at : Instant) (request new : HttpRequest) (settings : SigningSettings) (identity : Bor Identity) (region name : Bor (List ℕ))
-    (params : V4Params SigningSettings) where
-  -- a request that is signed in place is the signed request of the words, or it is why it isn't signed
-  pub in_place : (result : Result (Uri × String Global) SigningError) → params ≡ params_of identity region name at settings → IsAsked sign_wanted request
-      → settings_of settings ≡ asked_settings sign_wanted (is_s3 sign_wanted.options (string_bytes signer.service))
-      → identity.now ≡ OfCredentials signer.credentials → region.now ≡ string_bytes signer.region → name.now ≡ string_bytes signer.service
-      → SignsInPlace (identity_of (V4 params)) (in_place_case request payload (V4 params)) request new result
-      → SignsAsked sign_wanted (asked_case sign_wanted (signs_for_of signer) payload at) (signed_or new result)
-  in_place result made asked set who where_ what signs =
-      by_result result (subst (λ (p : V4Params SigningSettings). SignsInPlace (identity_of (V4 p)) (in_place_case request payload (V4 p)) request new result) made signs)
+-- ## A request whose target was read
+
+module _ (by : SigningState) (request : HttpRequest) (payload : Option (List ℕ)) (at : Instant) (uri : Uri) (spells : SpellsTarget (string_bytes request.target) uri) where
+  abbrev url : List ℕ
+  url = string_bytes request.target
+
+  abbrev case : Target → Case
+  case = settings_case by request payload at
+
+  -- why it isn't signed for what its target spells, where the moment lies in the years 0 to 9999
+  abbrev refusal_for : Target → Option SigningError
+  refusal_for target = option_or (unfit (case target)) (unfit_signed_target (case target))
+
+  -- the tests in their order
+  refusal_is : (target : Target) → asked_refusal (case target) ≡ option_or (unsigned_chunk_at at) (refusal_for target)
+  refusal_is target = option_or_assoc (unsigned_chunk_at at) (unfit (case target)) (unfit_signed_target (case target))
+
+  -- it is signed
+  pub read_signed : (new : HttpRequest) (signature : String Global) → string_bytes new.method ≡ string_bytes request.method
+      → IsSignedRequestBy (settings_case by request payload at) at (string_bytes request.target) new (string_bytes signature)
+      → SignsUrl (string_bytes request.method) (string_bytes request.target) (settings_case by request payload at) (Ok (record { request = new; uri = uri; signature = signature }))
+  read_signed new signature method signed =
+      let one : signed.target ≡ target_of uri = signed_for case at url uri spells new (string_bytes signature) signed in
+      let passed : asked_refusal (case signed.target) ≡ None =
+      refusal_is signed.target ∙ ap (λ (late : Option SigningError). option_or late (refusal_for signed.target)) signed.in_years ∙ signed.passed in (
+        spells,
+        subst (λ (t : Target). asked_refusal (case t) ≡ None) one passed,
+        method,
+        subst (λ (t : Target). string_bytes new.target ≡ signed_target (case t) url) one signed.text_is,
+        subst (λ (t : Target). new.headers ≡ signed_headers (case t)) one signed.headers,
+        subst (λ (t : Target). string_bytes signature ≡ signature_of (case t)) one signed.signature_is,
+      )
+
+  -- it isn't signed
+  pub read_refused : (error : SigningError) → RefusesBy (settings_case by request payload at) at (string_bytes request.target) error
+      → RefusesUrl (string_bytes request.target) (settings_case by request payload at) (signing_fault error)
+  read_refused error refuses = by_test (refused_for case at url uri spells error refuses)
     where
-      by_params : SigningParams
-      by_params = V4 (params_of identity region name at settings)
+      by_test : (option_or (unsigned_chunk_at at) (refusal_for (target_of uri)) ≡ Some error) ⊎ (error ≡ SignedNoMemory)
+          → RefusesUrl url case (signing_fault error)
+      by_test (inl is) = elim (told error) [ inl tells ↦ inl (inl (uri, error, spells, refusal_is (target_of uri) ∙ is, tells)) | inr memory ↦ inr memory ]
+      by_test (inr is) = inr (rw is refl)
 
-      same : (target : Target) → in_place_case request payload by_params target ≡ asked_case sign_wanted (signs_for_of signer) payload at target
-      same target = case_same sign_wanted signer payload at request settings identity region name target asked set who where_ what
+-- ## The request of words
 
-      refusal : (uri : Uri) → in_place_refusal (identity_of by_params) (in_place_case request payload by_params (target_of uri)) ≡ asked_refusal (asked_case sign_wanted (signs_for_of signer) payload at (target_of uri))
-      refusal uri = refusal_same identity.now signer.credentials _ _ who (same (target_of uri))
+module _ (sign_wanted : SignWanted) (chosen : Chosen) (payload : List ℕ) (at : Instant) (request : HttpRequest) (by : SigningState) where
+  -- the case of the words is that of their request and of who is chosen
+  case_same : by ≡ chosen_signer chosen (asked_settings sign_wanted (is_s3 sign_wanted.options (string_bytes chosen.service))) → IsAsked sign_wanted request
+      → settings_case by request (Some payload) at ≡ asked_case sign_wanted (signs_for_of chosen) payload at
+  case_same made asked = λ i target. record {
+    method = asked.method i;
+    target = target;
+    headers = asked.headers i;
+    payload = payload;
+    settings = (made i).settings;
+    key_id = (made i).holder.key_id;
+    token = (made i).holder.token;
+    signer = (made i).holder.kept.signer;
+    at = at;
+  }
 
-      by_result : (result : Result (Uri × String Global) SigningError) → SignsInPlace (identity_of by_params) (in_place_case request payload by_params) request new result
-          → SignsAsked sign_wanted (asked_case sign_wanted (signs_for_of signer) payload at) (signed_or new result)
-      by_result (Ok (uri, signature)) signs =
-          let spells : SpellsTarget sign_wanted.url uri = rw asked.target at signs.0 in
-          let Made : Case → Type 0 = λ c. HasSigned c request new (string_bytes signature) in
-          let made = subst Made (same (target_of uri)) signs.2 in
-          (spells, sym (refusal uri) ∙ signs.1, made.method ∙ asked.method, rw asked.target at made.target, made.headers, made.signed)
-      by_result (Err error) (inl (inl refused)) =
-          let uri = refused.0 in
-          let spells : SpellsTarget sign_wanted.url uri = rw asked.target at refused.1 in
-          elim (told error) [ inl is ↦ inl (inl (uri, error, spells, sym (refusal uri) ∙ refused.2, is)) | inr is ↦ inr is ]
-      by_result (Err error) (inl (inr none)) = let spells : SpellsNoTarget sign_wanted.url = rw asked.target at none.0 in inl (inr (spells, rw none.1 refl))
-      by_result (Err error) (inr memory) = inr (rw memory refl)
+  -- what is signed of the request, or why it isn't, is so of the words
+  pub words_signed : (result : Result SignedRequest Fault)
+      → by ≡ chosen_signer chosen (asked_settings sign_wanted (is_s3 sign_wanted.options (string_bytes chosen.service))) → IsAsked sign_wanted request
+      → SignsUrl (string_bytes request.method) (string_bytes request.target) (settings_case by request (Some payload) at) result
+      → SignsAsked sign_wanted (asked_case sign_wanted (signs_for_of chosen) payload at) result
+  words_signed result made asked signs =
+      let case = settings_case by request (Some payload) at in
+      let named = subst (λ (method : List ℕ). SignsUrl method (string_bytes request.target) case result) asked.method signs in
+      let aimed = subst (λ (url : List ℕ). SignsUrl sign_wanted.method url case result) asked.target named in
+      subst (λ (c : Target → Case). SignsUrl sign_wanted.method sign_wanted.url c result) (case_same made asked) aimed

@@ -1,15 +1,8 @@
 -- The faults that calls below return, as those of the tool.
-use Rattle.aws_settings.specs.declared.fault.SettingsFault.{SettingsFault}
-use Rattle.aws_settings.specs.declared.fault.SettingsFault.TheVariants.{NoMemory as SetNoMemory}
 use Rattle.sigv4.specs.declared.error.SigningError.{SigningError}
 use Rattle.sigv4.specs.declared.error.SigningError.TheVariants.{NoMemory as SignedNoMemory}
 use Rattle.awsign_run.specs.declared.fault.Fault.{Fault}
-use Rattle.awsign_run.specs.declared.fault.Fault.TheVariants.{Settings, Signing, NoMemory}
-
--- the fault where there are no settings
-abbrev pub lacking_fault : SettingsFault → Fault
-lacking_fault SetNoMemory = NoMemory
-lacking_fault fault = Settings fault
+use Rattle.awsign_run.specs.declared.fault.Fault.TheVariants.{Signing, NoMemory}
 
 -- the fault of a request that isn't signed
 abbrev pub signing_fault : SigningError → Fault

@@ -1,7 +1,6 @@
 pub mod Chosen
 pub mod Faults
 pub mod Guess
-pub mod InPlace
 pub mod Progress
 pub mod Run
 pub mod Saying

@@ -5,10 +5,8 @@ use Rattle.smithy_core.specs.Outside.{Gains, GainsProperPrefix}
 use Rattle.smithy_core.specs.Text.{line}
 use Rattle.env_config.specs.declared.parse_fault.EnvConfigParseError.{EnvConfigParseError}
 use Rattle.sigv4.specs.Error.{error_text}
-use Rattle.aws_settings.specs.declared.fault.SettingsFault.{SettingsFault}
-use Rattle.aws_settings.specs.declared.fault.SettingsFault.TheVariants as set
 use Rattle.awsign_run.specs.declared.fault.Fault.{Fault}
-use Rattle.awsign_run.specs.declared.fault.Fault.TheVariants.{Settings, MissingService, LongExpiry, Signing, NoMemory as FaultNoMemory}
+use Rattle.awsign_run.specs.declared.fault.Fault.TheVariants.{Profile, MissingKey, MissingSecret, MissingRegion, EmptyRegion, MissingService, EmptyService, LongExpiry, Signing, NoMemory as FaultNoMemory}
 use Rattle.awsign_run.specs.declared.status.Status.{Status}
 use Rattle.awsign_run.specs.declared.status.Status.TheVariants.{Done, BadWord, CouldNotReadFile, DataFault, Refused, OutputFault, NoMemory}
 
@@ -25,19 +23,26 @@ word_text place None = codes "a word is missing at the end; awsign --help lists 
 abbrev pub faulty_text : EnvConfigParseError → List ℕ
 faulty_text error = string_bytes error.path ++ (codes ", line " ++ (decimal error.line_number ++ (codes ": " ++ string_bytes error.message)))
 
--- what lacks, and what to do
-abbrev pub settings_reason : SettingsFault → List ℕ
-settings_reason (set.Profile error) = faulty_text error
-settings_reason (set.MissingKey profile) =
-    codes "no key: set AWS_ACCESS_KEY_ID and AWS_SECRET_ACCESS_KEY, or give the profile '" ++ (string_bytes profile ++ codes "' aws_access_key_id and aws_secret_access_key; awsign settings says where they are looked for")
-settings_reason set.MissingSecret = codes "AWS_ACCESS_KEY_ID is set and AWS_SECRET_ACCESS_KEY isn't: set both, or neither"
-settings_reason (set.MissingRegion profile) = codes "no region: say --region, set AWS_REGION, or give the profile '" ++ (string_bytes profile ++ codes "' a region; awsign settings says where it is looked for")
-settings_reason set.NoMemory = codes "no memory"
+-- there is no key: what to do, and the paths of the files that were looked at
+abbrev pub no_key_text : List ℕ → List ℕ → List ℕ
+no_key_text profile files =
+    codes "no key: set AWS_ACCESS_KEY_ID and AWS_SECRET_ACCESS_KEY, which don't count beside --profile, or give the profile '"
+    ++ (profile ++ (codes "' aws_access_key_id and aws_secret_access_key; looked in " ++ files))
+
+-- there is no region: what to do
+abbrev pub no_region_text : List ℕ → List ℕ
+no_region_text profile =
+    codes "no region: say --region, set AWS_REGION, or give the profile '" ++ (profile ++ codes "' a region; awsign settings says where it is looked for")
 
 -- why nothing is signed, and what to do
 abbrev pub fault_reason : Fault → List ℕ
-fault_reason (Settings fault) = settings_reason fault
+fault_reason (Profile error) = faulty_text error
+fault_reason (MissingKey profile files) = no_key_text (string_bytes profile) (string_bytes files)
+fault_reason MissingSecret = codes "AWS_ACCESS_KEY_ID is set and AWS_SECRET_ACCESS_KEY isn't: set both, or neither"
+fault_reason (MissingRegion profile) = no_region_text (string_bytes profile)
+fault_reason EmptyRegion = codes "the region is empty: give --region a name, or leave it out"
 fault_reason MissingService = codes "no service, and the host names none: say --service NAME, or --s3"
+fault_reason EmptyService = codes "the service's name is empty: give --service a name, or leave it out"
 fault_reason LongExpiry = codes "the URL would be good for over 604800 seconds, which AWS refuses; --long makes it all the same"
 fault_reason (Signing error) = codes "the request can't be signed: " ++ error_text error
 fault_reason FaultNoMemory = codes "no memory"

@@ -12,7 +12,7 @@ use Rattle.smithy_core.specs.TextPairs.{last_value}
 use Rattle.smithy_core.specs.declared.request.HttpRequest.{HttpRequest}
 use Rattle.smithy_http.specs.QueryWriter.{SpellsNoTarget, SpellsTarget}
 use Rattle.smithy_http.specs.Target.{Target, target_of}
-use Rattle.env_config.specs.Sections.{FileText, sections}
+use Rattle.env_config.specs.Sections.{FileText}
 use Rattle.sigv4.specs.Host.{host_text}
 use Rattle.sigv4.specs.Refusal.{unfit, unfit_signed_target}
 use Rattle.sigv4.specs.Request.{Case}
@@ -24,9 +24,11 @@ use Rattle.sigv4.specs.declared.settings.SignatureLocation.TheVariants.{QueryPar
 use Rattle.awsign_text.specs.Forms.{text_in_form}
 use Rattle.awsign_text.specs.declared.forms.Form.{Form}
 use Rattle.awsign_text.specs.declared.forms.Form.TheVariants.{Curl, Url}
-use Rattle.aws_settings.specs.Choice.{profile_of}
+use Rattle.aws_signing.specs.KeyHolder.{held_key}
+use Rattle.aws_signing.specs.SigningBy.{SigningState}
 use Rattle.awsign_run.specs.Chosen.{SignRefusal, SignsFor, asked_profile, long_expiry, refusal_of, signer_by, unsigned}
 use Rattle.awsign_run.specs.Guess.{url_host}
+use Rattle.awsign_run.specs.declared.chosen.Chosen.{Chosen}
 use Rattle.awsign_run.specs.declared.signing.SignedRequest.{SignedRequest}
 use Rattle.awsign_words.specs.Expiry.{expiry_named}
 use Rattle.awsign_words.specs.Words.{OptionValues, SignWanted, form_named, has}
@@ -87,6 +89,12 @@ asked_case sign_wanted signer payload at target = record {
 abbrev pub asked_refusal : Case → Option SigningError
 asked_refusal c = option_or (option_or (if is_in_years c.at then None else Some (MomentOutOfRange c.at)) (unfit c)) (unfit_signed_target c)
 
+-- why a request to this URL isn't signed
+abbrev pub RefusesUrl : List ℕ → (Target → Case) → Fault → Type 0
+RefusesUrl url case fault =
+    (((uri : Uri) × (error : SigningError) × SpellsTarget url uri × (asked_refusal (case (target_of uri)) ≡ Some error) × (refusal_of fault ≡ unsigned error))
+    ⊎ (SpellsNoTarget url × (refusal_of fault ≡ unsigned InvalidUri))) ⊎ (fault ≡ NoMemory)
+
 -- ## What is printed
 
 -- the form: the one that an option names, and else a config of curl, or the URL where one is presigned
@@ -103,9 +111,7 @@ printed sign_wanted target c =
 abbrev pub SignsPrinted : SignWanted → (Target → Case) → Result (Vec ℕ) Fault → Type 0
 SignsPrinted sign_wanted case (Ok text) =
     (uri : Uri) × SpellsTarget sign_wanted.url uri × (asked_refusal (case (target_of uri)) ≡ None) × (text.items ≡ printed sign_wanted (target_of uri) (case (target_of uri)))
-SignsPrinted sign_wanted case (Err fault) =
-    (((uri : Uri) × (error : SigningError) × SpellsTarget sign_wanted.url uri × (asked_refusal (case (target_of uri)) ≡ Some error) × (refusal_of fault ≡ unsigned error))
-    ⊎ (SpellsNoTarget sign_wanted.url × (refusal_of fault ≡ unsigned InvalidUri))) ⊎ (fault ≡ NoMemory)
+SignsPrinted sign_wanted case (Err fault) = RefusesUrl sign_wanted.url case fault
 
 -- the text of the request that somebody signs with this digest of the data at this moment, or why there is none
 abbrev pub PrintsFor : SignWanted → Result SignsFor SignRefusal → Option (List ℕ) → Instant → Result (Vec ℕ) Fault → Type 0
@@ -118,7 +124,7 @@ PrintsFor sign_wanted (Err refusal) digest at (Err fault) = (refusal_of fault �
 abbrev pub asked_signer : SignWanted → List (List ℕ × List ℕ) → List FileText → Result SignsFor SignRefusal
 asked_signer sign_wanted env files =
     if is_long sign_wanted.options then Err long_expiry
-    else signer_by sign_wanted.options (url_host sign_wanted.url) env (profile_of (sections files) (asked_profile sign_wanted.options env))
+    else signer_by sign_wanted.options (url_host sign_wanted.url) env (asked_profile sign_wanted.options env) files
 
 -- the text that words, variables, the texts of profile files, the digest of the data and a moment give, or why there is none
 abbrev pub PrintsSigned : SignWanted → List (List ℕ × List ℕ) → List FileText → Option (List ℕ) → Instant → Result (Vec ℕ) Fault → Type 0
@@ -134,15 +140,23 @@ pub record IsAsked (sign_wanted : SignWanted) (request : HttpRequest) : Type 0 w
   pub target : string_bytes request.target ≡ sign_wanted.url
   pub headers : request.headers ≡ sign_wanted.headers
 
--- the signed request, for what the URL spells, or why it isn't signed
-abbrev pub SignsAsked : SignWanted → (Target → Case) → Result SignedRequest Fault → Type 0
-SignsAsked sign_wanted case (Ok signed) =
-    SpellsTarget sign_wanted.url signed.uri × (asked_refusal (case (target_of signed.uri)) ≡ None)
-    × (string_bytes signed.request.method ≡ sign_wanted.method)
-    × (string_bytes signed.request.target ≡ signed_target (case (target_of signed.uri)) sign_wanted.url)
+-- who is chosen, as a signer by these settings, of which no key was derived yet
+abbrev pub chosen_signer : Chosen → Settings → SigningState
+chosen_signer chosen settings = record { holder = held_key chosen.credentials (string_bytes chosen.region) (string_bytes chosen.service); settings = settings }
+
+-- the signed request of this method and URL, for what the URL spells, or why it isn't signed
+abbrev pub SignsUrl : List ℕ → List ℕ → (Target → Case) → Result SignedRequest Fault → Type 0
+SignsUrl method url case (Ok signed) =
+    SpellsTarget url signed.uri × (asked_refusal (case (target_of signed.uri)) ≡ None)
+    × (string_bytes signed.request.method ≡ method)
+    × (string_bytes signed.request.target ≡ signed_target (case (target_of signed.uri)) url)
     × (signed.request.headers ≡ signed_headers (case (target_of signed.uri)))
     × (string_bytes signed.signature ≡ signature_of (case (target_of signed.uri)))
-SignsAsked sign_wanted case (Err fault) = SignsPrinted sign_wanted case (Err fault)
+SignsUrl method url case (Err fault) = RefusesUrl url case fault
+
+-- the same of the words' own
+abbrev pub SignsAsked : SignWanted → (Target → Case) → Result SignedRequest Fault → Type 0
+SignsAsked sign_wanted case result = SignsUrl sign_wanted.method sign_wanted.url case result
 
 -- the text of a signed request in the form that is asked for, with this file as its body
 abbrev pub IsPrinted : SignWanted → SignedRequest → Option (List ℕ) → List ℕ → Type 0

@@ -8,9 +8,8 @@ use Rattle.smithy_core.specs.declared.outside.read_all.ReadFault.{ReadFault}
 use Rattle.smithy_core.specs.declared.outside.read_all.ReadFault.TheVariants.{Failed as ReadFailed, TooLarge, NoMemory as ReadNoMemory}
 use Rattle.smithy_core.specs.declared.outside.sink.SinkError.{SinkError}
 use Rattle.smithy_core.specs.declared.outside.sink.SinkError.TheVariants.{Failed as SinkFailed, NoMemory as SinkNoMemory}
-use Rattle.aws_settings.specs.declared.fault.SettingsFault.TheVariants.{Profile}
 use Rattle.awsign_run.specs.declared.fault.Fault.{Fault}
-use Rattle.awsign_run.specs.declared.fault.Fault.TheVariants.{Settings, NoMemory as FaultNoMemory}
+use Rattle.awsign_run.specs.declared.fault.Fault.TheVariants.{Profile, NoMemory as FaultNoMemory}
 use Rattle.awsign_run.specs.declared.status.Status.{Status}
 use Rattle.awsign_run.specs.declared.status.Status.TheVariants.{Done, BadWord, CouldNotReadFile, DataFault, Refused, OutputFault, NoMemory}
 
@@ -31,7 +30,7 @@ words_status WordNoMemory = NoMemory
 
 -- how a run ends whose profile files aren't loaded
 abbrev pub load_status : EnvConfigFileLoadError → Status
-load_status (Unparsed error) = Refused (Settings (Profile error))
+load_status (Unparsed error) = Refused (Profile error)
 load_status (Unloaded fault) = CouldNotReadFile fault.path
 load_status LoadNoMemory = NoMemory
 

@@ -6,22 +6,22 @@
 //! and the output is as it was (`specs/Run.antt`, and below it `specs/Signing.antt`, `specs/Chosen.antt` and `specs/Guess.antt`).
 #![tactic(auto)]
 
+mod choosing;
 mod chosen;
 mod digest;
 mod fault;
 mod guess;
-mod in_place;
 mod progress;
 mod run;
 mod saying;
 mod signing;
 mod status;
 
-pub use crate::chosen::{Signer, signer_for};
+pub use crate::choosing::signer_for;
+pub use crate::chosen::Chosen;
 pub use crate::digest::digest_of;
 pub use crate::fault::Fault;
 pub use crate::guess::{guessed_service, tell_service, url_host};
-pub use crate::in_place::sign_in_place;
 pub use crate::progress::ProgressSource;
 pub use crate::run::{load_source, moment_asked, moment_of, run_signing, write_text};
 pub use crate::saying::{fault_line, say, tool_line, write_some};

@@ -2,11 +2,11 @@
 ghost use Rattle.std.specs.Prelude.{◌≡◌, ◌≤◌, ◌-◌, ◌++◌, false, Some, IfOk, codes, map, option_copied, option_map, slice_get};
 ghost use Rattle.std.specs.String.{string_bytes};
 ghost use Rattle.sigv4.specs.Error.{error_text};
-ghost use Rattle.awsign_run.specs.Saying.{GainsSome, Says, behind_word, fault_reason, faulty_text, settings_reason, status_line, tool_line, unread_data_text, word_text};
+ghost use Rattle.awsign_run.specs.Saying.{GainsSome, Says, behind_word, fault_reason, faulty_text, no_key_text, no_region_text, status_line, tool_line, unread_data_text, word_text};
 
 use crate::fault::Fault;
 use crate::status::Status;
-use aws_settings::{EnvConfigParseError, SettingsFault};
+use aws_settings::EnvConfigParseError;
 use sigv4::SigningError;
 use smithy_core::{ByteSink, Mem, write_all};
 use std::alloc::Global;
@@ -123,16 +123,32 @@ pub fn fault_line(alloc: Global, fault: &Fault) -> Mem<String>
     ensures { IfOk result (λ line. string_bytes line ≡ tool_line (fault_reason fault.now)) }
 {
     match fault {
-        Fault::Settings(fault) => settings_line(alloc, fault),
-        Fault::Signing(error) => unsigned_line(alloc, error),
+        Fault::Profile(error) => faulty_line(alloc, error),
+        Fault::MissingKey { profile, files } => {
+            no_key_line(alloc, profile.as_str(), files.as_str())
+        }
+        Fault::MissingSecret => tool_line(
+            alloc,
+            "AWS_ACCESS_KEY_ID is set and AWS_SECRET_ACCESS_KEY isn't: set both, or neither",
+        ),
+        Fault::MissingRegion(profile) => no_region_line(alloc, profile.as_str()),
+        Fault::EmptyRegion => tool_line(
+            alloc,
+            "the region is empty: give --region a name, or leave it out",
+        ),
         Fault::MissingService => tool_line(
             alloc,
             "no service, and the host names none: say --service NAME, or --s3",
+        ),
+        Fault::EmptyService => tool_line(
+            alloc,
+            "the service's name is empty: give --service a name, or leave it out",
         ),
         Fault::LongExpiry => tool_line(
             alloc,
             "the URL would be good for over 604800 seconds, which AWS refuses; --long makes it all the same",
         ),
+        Fault::Signing(error) => unsigned_line(alloc, error),
         Fault::NoMemory => tool_line(alloc, "no memory"),
     }
 }
@@ -144,24 +160,21 @@ fn unsigned_line(alloc: Global, error: &SigningError) -> Mem<String>
     tool_line(alloc, text.as_str())
 }
 
-// The line that says what lacks, and what to do.
-fn settings_line(alloc: Global, fault: &SettingsFault) -> Mem<String>
-    ensures { IfOk result (λ line. string_bytes line ≡ tool_line (settings_reason fault.now)) }
+fn no_key_line(alloc: Global, profile: &str, files: &str) -> Mem<String>
+    ensures { IfOk result (λ line. string_bytes line ≡ tool_line (no_key_text profile.now files.now)) }
 {
-    let text = match fault {
-        SettingsFault::Profile(error) => return faulty_line(alloc, error),
-        SettingsFault::MissingKey(profile) => format!(in alloc;
-            "no key: set AWS_ACCESS_KEY_ID and AWS_SECRET_ACCESS_KEY, or give the profile '{profile}' aws_access_key_id and aws_secret_access_key; awsign settings says where they are looked for"
-        )?,
-        SettingsFault::MissingSecret => String::from_str(
-            alloc,
-            "AWS_ACCESS_KEY_ID is set and AWS_SECRET_ACCESS_KEY isn't: set both, or neither",
-        )?,
-        SettingsFault::MissingRegion(profile) => format!(in alloc;
-            "no region: say --region, set AWS_REGION, or give the profile '{profile}' a region; awsign settings says where it is looked for"
-        )?,
-        SettingsFault::NoMemory => String::from_str(alloc, "no memory")?,
-    };
+    let text = format!(in alloc;
+        "no key: set AWS_ACCESS_KEY_ID and AWS_SECRET_ACCESS_KEY, which don't count beside --profile, or give the profile '{profile}' aws_access_key_id and aws_secret_access_key; looked in {files}"
+    )?;
+    tool_line(alloc, text.as_str())
+}
+
+fn no_region_line(alloc: Global, profile: &str) -> Mem<String>
+    ensures { IfOk result (λ line. string_bytes line ≡ tool_line (no_region_text profile.now)) }
+{
+    let text = format!(in alloc;
+        "no region: say --region, set AWS_REGION, or give the profile '{profile}' a region; awsign settings says where it is looked for"
+    )?;
     tool_line(alloc, text.as_str())
 }
 

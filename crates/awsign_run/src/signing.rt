@@ -1,25 +1,32 @@
 //! The signed request that words ask for, as it is printed.
-ghost use Rattle.std.specs.Prelude.{◌≡◌, ◌||◌, IfOk, codes, map, option_copied, option_map, string_bytes, true, false};
+ghost use Rattle.std.specs.Prelude.{◌≡◌, ◌||◌, Some, IfOk, codes, map, option_copied, option_map, string_bytes, true, false};
+ghost use Rattle.smithy_http.specs.QueryWriter.{SpellsTarget};
 ghost use Rattle.env_config.specs.Source.{file_of};
 ghost use Rattle.sigv4.specs.Settings.{settings_of};
+ghost use Rattle.sigv4.specs.declared.error.SigningError.{SigningError};
+ghost use Rattle.aws_signing.specs.SigningBy.{settings_case};
+ghost use Rattle.aws_signing.specs.SigningFaults.{of_signing};
 ghost use Rattle.awsign_run.specs.Chosen.{asked_profile, signs_for_of};
+ghost use Rattle.awsign_run.specs.Faults.{signing_fault};
 ghost use Rattle.awsign_run.specs.Guess.{url_host};
-ghost use Rattle.awsign_run.specs.Signing.{IsAsked, IsPrinted, PrintsFor, PrintsSigned, SignsAsked, SignsPrinted, asked_case, asked_form, asked_payload, asked_settings, expiry, is_long, is_s3, default_payload, usual_settings};
+ghost use Rattle.awsign_run.specs.Signing.{IsAsked, IsPrinted, PrintsFor, PrintsSigned, SignsAsked, SignsPrinted, SignsUrl, asked_case, asked_form, asked_payload, asked_settings, chosen_signer, expiry, is_long, is_s3, default_payload, usual_settings};
 ghost use Rattle.awsign_words.specs.Words.{sign_wanted};
 
-use crate::chosen::{Signer, signer_for};
+use crate::choosing::signer_for;
+use crate::chosen::Chosen;
 use crate::fault::Fault;
 use crate::guess::url_host;
-use crate::in_place::sign_in_place;
+use aws_signing::{AwsSigningError, Signer};
 use awsign_text::{Form, text_of};
 use awsign_words::{Asked, expiry_named, form_named};
 use env_config::Source;
 use http_uri::Uri;
 use mac_core::sha256_hex;
 use sigv4::parts::host_text;
-use sigv4::{SignableBody, SignatureLocation, SigningParams, SigningSettings, v4};
-use smithy_core::{Env, HttpRequest, Identity, Mem, Moment};
-use std::alloc::Global;
+use sigv4::{SignatureLocation, SigningError, SigningSettings};
+use smithy_core::{Env, HttpRequest, Mem, Moment};
+use smithy_http::read_target;
+use std::alloc::{AllocError, Global};
 
 /// A signed request.
 #[derive(Drop)]
@@ -40,8 +47,8 @@ const MOST_EXPIRY: u64 = 604_800;
 ///
 /// # Errors
 ///
-/// The first of these: [`Fault::LongExpiry`]; [`Fault::Settings`]; [`Fault::MissingService`]; and [`Fault::Signing`] with the first test
-/// that the request fails.
+/// The first of these: [`Fault::LongExpiry`]; those of [`signer_for`](crate::signer_for); and those of
+/// [`signed_request`](crate::signed_request).
 pub fn signed_text(
     alloc: Global,
     asked: &Asked<'_>,
@@ -66,7 +73,7 @@ pub fn signed_text(
 fn print_signed(
     alloc: Global,
     asked: &Asked<'_>,
-    signer: Signer,
+    signer: Chosen,
     digest: Option<&str>,
     at: Moment,
 ) -> Result<Vec<u8>, Fault>
@@ -84,7 +91,7 @@ fn print_signed(
 fn print_over(
     alloc: Global,
     asked: &Asked<'_>,
-    signer: Signer,
+    signer: Chosen,
     payload: String,
     at: Moment,
 ) -> Result<Vec<u8>, Fault>
@@ -113,52 +120,90 @@ pub fn printed_request(
 ///
 /// # Errors
 ///
-/// [`Fault::Signing`] with the first test that the request fails.
+/// [`Fault::Signing`] with the first of these: the URL isn't accepted; the moment lies outside the years 0 to 9999; and then as
+/// [`sigv4::sign`] and [`sigv4::SigningInstructions::apply_to_request`] have them.
 pub fn signed_request(
     alloc: Global,
     asked: &Asked<'_>,
-    signer: Signer,
+    signer: Chosen,
     payload: String,
     at: Moment,
 ) -> Result<SignedRequest, Fault>
     ensures { SignsAsked (sign_wanted asked.now) (asked_case (sign_wanted asked.now) (signs_for_of signer) (string_bytes payload) at) result }
 {
-    let request = request_of(alloc, asked)?;
-    let settings = settings_of(alloc, asked, is_s3(&asked.options, signer.service.as_str()))?;
-    sign_as(alloc, asked, request, settings, signer, payload, at)
+    let (request, made) = asked_parts(alloc, asked, &signer)?;
+    sign_as(alloc, request, made, payload.as_str(), at)
 }
 
-// The request of the words, signed under the settings that they ask for.
+// The request of the words before it is signed, and what signs it.
+fn asked_parts(alloc: Global, asked: &Asked<'_>, chosen: &Chosen) -> Mem<(HttpRequest, Signer)>
+    ensures request { IfOk result (λ parts. IsAsked (sign_wanted asked.now) parts.0) }
+    ensures signer { let settings = asked_settings (sign_wanted asked.now) (is_s3 asked.now.options (string_bytes chosen.now.service)) in
+        IfOk result (λ parts. parts.1 ≡ chosen_signer chosen.now settings) }
+{
+    let settings = settings_of(alloc, asked, is_s3(&asked.options, chosen.service.as_str()))?;
+    let signer = chosen_signer(alloc, chosen, settings)?;
+    Ok((request_of(alloc, asked)?, signer))
+}
+
+// Who is chosen, as a signer by settings.
+fn chosen_signer(alloc: Global, chosen: &Chosen, settings: SigningSettings) -> Mem<Signer>
+    ensures { IfOk result (λ signer. signer ≡ chosen_signer chosen.now (settings_of settings)) }
+{
+    let (region, service) = (chosen.region.as_str(), chosen.service.as_str());
+    match Signer::with_settings(alloc, &chosen.credentials, region, service, settings) {
+        Ok(signer) => Ok(signer),
+        Err(AwsSigningError::NoMemory) => Err(AllocError),
+        Err(_) => unreachable!(),
+    }
+}
+
+// A request, signed by a signer over the payload of this text. Its target is read first: what it spells is a part of the answer.
 fn sign_as(
     alloc: Global,
-    asked: &Asked<'_>,
-    mut request: HttpRequest,
-    settings: SigningSettings,
+    request: HttpRequest,
     signer: Signer,
-    payload: String,
+    payload: &str,
     at: Moment,
 ) -> Result<SignedRequest, Fault>
-    requires asked { IsAsked (sign_wanted asked.now) request }
-    requires settings { settings_of settings ≡ asked_settings (sign_wanted asked.now) (is_s3 asked.now.options (string_bytes signer.service)) }
-    ensures { SignsAsked (sign_wanted asked.now) (asked_case (sign_wanted asked.now) (signs_for_of signer) (string_bytes payload) at) result }
+    ensures { SignsUrl (string_bytes request.method) (string_bytes request.target) (settings_case signer request (Some payload.now) at) result }
 {
-    let identity = Identity::Credentials(signer.credentials);
-    let (region, service) = (signer.region.as_str(), signer.service.as_str());
-    let params = SigningParams::V4(v4::SigningParams::new(
-        &identity, region, service, at, settings,
-    ));
-    match sign_in_place(
-        alloc,
-        &mut request,
-        SignableBody::Precomputed(payload),
-        &params,
-    ) {
-        Ok((uri, signature)) => Ok(SignedRequest {
+    match read_target(alloc, request.target.as_str()) {
+        Ok(uri) => sign_read(request, uri, signer, payload, at),
+        Err(fault) => Err(Fault::from(SigningError::from(fault))),
+    }
+}
+
+// The same of a request whose target spells this.
+fn sign_read(
+    mut request: HttpRequest,
+    uri: Uri,
+    mut signer: Signer,
+    payload: &str,
+    at: Moment,
+) -> Result<SignedRequest, Fault>
+    requires { SpellsTarget (string_bytes request.target) uri }
+    ensures { SignsUrl (string_bytes request.method) (string_bytes request.target) (settings_case signer request (Some payload.now) at) result }
+{
+    match signer.sign_with_payload_hash(&mut request, payload, at) {
+        Ok(signature) => Ok(SignedRequest {
             request,
             uri,
             signature,
         }),
-        Err(error) => Err(Fault::from(error)),
+        Err(fault) => Err(fault_of(fault)),
+    }
+}
+
+// The fault of a request that a signer doesn't sign.
+fn fault_of(fault: AwsSigningError) -> Fault
+    requires { (error : SigningError) × (fault ≡ of_signing error) }
+    ensures { (error : SigningError) → fault ≡ of_signing error → result ≡ signing_fault error }
+{
+    match fault {
+        AwsSigningError::Signing(error) => Fault::from(error),
+        AwsSigningError::NoMemory => Fault::NoMemory,
+        _ => unreachable!(),
     }
 }
 

@@ -2,7 +2,6 @@
 ghost use Rattle.std.specs.Prelude.{◌≡◌};
 
 use crate::fault::Fault;
-use aws_settings::SettingsFault;
 use env_config::EnvConfigFileLoadError;
 use job_text::WordsFault;
 use smithy_core::{ReadFault, SinkError};
@@ -79,9 +78,7 @@ impl From<EnvConfigFileLoadError> for Status {
 
     fn from(fault: EnvConfigFileLoadError) -> Status {
         match fault {
-            EnvConfigFileLoadError::ParseError(error) => {
-                Status::Refused(Fault::Settings(SettingsFault::Profile(error)))
-            },
+            EnvConfigFileLoadError::ParseError(error) => Status::Refused(Fault::Profile(error)),
             EnvConfigFileLoadError::CouldNotReadFile(fault) => Status::CouldNotReadFile(fault.path),
             EnvConfigFileLoadError::NoMemory => Status::NoMemory,
         }

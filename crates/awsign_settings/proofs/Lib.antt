@@ -1,4 +1,3 @@
-pub mod JoinLemmas
 pub mod OwnLemmas
 pub mod SettingsLemmas
 pub mod SettingsRunLemmas

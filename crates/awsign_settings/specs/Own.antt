@@ -1,10 +1,11 @@
 -- What each profile file has of the selected profile by itself.
-use Rattle.std.specs.Prelude.{◌≡◌, ℕ, List, [], ◌∷◌, codes, map, Option, Result, Ok, Err, unwrap_or}
+use Rattle.std.specs.Prelude.{◌≡◌, ℕ, List, [], ◌∷◌, codes, map, Option, Result, Ok, Err}
 use Rattle.std.specs.Global.{Vec}
 use Rattle.env_config.specs.Sections.{FileText, sections}
 use Rattle.env_config.specs.Source.{file_of}
 use Rattle.aws_settings.specs.Choice.{IsLackOf, Lack, Profile, profile_of, profile_values}
 use Rattle.aws_settings.specs.declared.fault.SettingsFault.{SettingsFault}
+use Rattle.awsign_run.specs.Chosen.{file_path}
 use Rattle.awsign_settings.specs.declared.own.OwnProfile.{OwnProfile}
 use Rattle.awsign_settings.specs.declared.part.Part.{Part}
 use Rattle.awsign_settings.specs.declared.part.Part.TheVariants.{KeyId, Secret, Token, Region}
@@ -34,7 +35,7 @@ pub record Own : Type 0 where
 
 -- the path of a file, where it has one
 abbrev pub own_path : Own → List ℕ
-own_path own = unwrap_or own.file.path []
+own_path own = file_path own.file
 
 -- what the profile of this name has in a file alone, or its first faulty line
 abbrev pub alone : List ℕ → FileText → Result Profile Lack

@@ -1,30 +1,28 @@
 //! A run of `awsign settings`, behind its words.
-ghost use Rattle.std.specs.Prelude.{◌≡◌, ◌≤◌, Some, Option, map, option_map, string_bytes};
+ghost use Rattle.std.specs.Prelude.{◌≡◌, ◌≤◌, IfOk, map, option_map, string_bytes};
 ghost use Rattle.smithy_core.specs.Outside.{CountsFault};
 ghost use Rattle.env_config.specs.Loading.{Loaded, StopsAtFile};
 ghost use Rattle.env_config.specs.Source.{file_of};
-ghost use Rattle.aws_settings.specs.Choice.{Lack, lack_in};
-ghost use Rattle.awsign_run.specs.Chosen.{asked_profile};
+ghost use Rattle.awsign_run.specs.Chosen.{asked_profile, file_paths, refusal_of};
 ghost use Rattle.awsign_run.specs.Run.{asked_places};
 ghost use Rattle.awsign_settings.specs.Own.{own_of};
-ghost use Rattle.awsign_settings.specs.Settings.{settings_lack, used_settings_of};
+ghost use Rattle.awsign_settings.specs.Settings.{used_of, used_settings_of};
 ghost use Rattle.awsign_settings.specs.Told.{paths_text, settings_text};
-ghost use Rattle.awsign_settings.specs.SettingsRun.{RanSettings, TellsFiles, TellsOwns, TellsText};
+ghost use Rattle.awsign_settings.specs.SettingsRun.{RanSettings, TellsFiles, TellsOwns, TellsText, region_refusal, settings_refusal};
 
 use crate::own::{OwnProfile, own_profiles};
 use crate::settings::{Settings, lack, settings_of};
 use crate::told::settings_text;
-use aws_settings::SettingsFault;
 use awsign_run::{Fault, Status, load_source};
 use env_config::Source;
-use smithy_core::{ByteSink, Disk, Env, write_all};
+use smithy_core::{ByteSink, Disk, Env, Mem, write_all};
 use std::alloc::Global;
 
 /// Prints which settings are used under these options, and where each came from. [`Status::Refused`] says what lacks for a signature; the
 /// settings are printed all the same, unless a profile file has a line outside the grammar.
 ///
 /// The first test that fails ends the run, in this order: a profile file that an option names, the lines of profile files, the output, the
-/// key, the region.
+/// key, the region, and that an option doesn't name an empty one.
 pub fn run_settings<D: Disk, K: ByteSink>(
     alloc: Global,
     options: &Env,
@@ -63,8 +61,11 @@ fn tell_source<K: ByteSink>(
     ensures failed { CountsFault (result ≡ Status.OutputFault) (K.faults out.old) (K.faults out.new) }
 {
     match own_profiles(alloc, source) {
-        Ok(owns) => tell_owns(alloc, options, env, owns.as_slice(), out),
-        Err(fault) => Status::from(Fault::from(fault)),
+        Ok(owns) => tell_owns(alloc, options, env, source, owns.as_slice(), out),
+        Err(fault) => match Fault::lacking(alloc, fault, source) {
+            Ok(fault) => Status::Refused(fault),
+            Err(_) => Status::NoMemory,
+        },
     }
 }
 
@@ -73,14 +74,15 @@ fn tell_owns<K: ByteSink>(
     alloc: Global,
     options: &Env,
     env: &Env,
+    source: &Source,
     owns: &[OwnProfile],
     out: &mut K,
 ) -> Status
-    ensures tells { TellsOwns options.now env.now (map own_of owns.now) result (K.held out.old) (K.held out.new) }
+    ensures tells { TellsOwns (file_paths (map file_of source.now.files.items)) options.now env.now (map own_of owns.now) result (K.held out.old) (K.held out.new) }
     ensures failed { CountsFault (result ≡ Status.OutputFault) (K.faults out.old) (K.faults out.new) }
 {
     match settings_of(alloc, options, env, owns) {
-        Ok(settings) => tell_settings(alloc, &settings, owns, out),
+        Ok(settings) => tell_settings(alloc, &settings, source, owns, out),
         Err(_) => Status::NoMemory,
     }
 }
@@ -89,30 +91,52 @@ fn tell_owns<K: ByteSink>(
 fn tell_settings<K: ByteSink>(
     alloc: Global,
     settings: &Settings<'_>,
+    source: &Source,
     owns: &[OwnProfile],
     out: &mut K,
 ) -> Status
     ensures tells { let settings = used_settings_of settings.now in
-        TellsText (settings_text (paths_text (map own_of owns.now)) settings) (settings_lack settings) result (K.held out.old) (K.held out.new) }
+        TellsText (settings_text (paths_text (map own_of owns.now)) settings) (settings_refusal (file_paths (map file_of source.now.files.items)) settings) result
+        (K.held out.old) (K.held out.new) }
     ensures failed { CountsFault (result ≡ Status.OutputFault) (K.faults out.old) (K.faults out.new) }
 {
-    let Ok(lack) = lack(alloc, settings) else {
+    let Ok(refusal) = refusal_of(alloc, settings, source) else {
         return Status::NoMemory;
     };
     match settings_text(alloc, settings, owns) {
-        Ok(text) => tell(text.as_slice(), lack, out),
+        Ok(text) => tell(text.as_slice(), refusal, out),
         Err(_) => Status::NoMemory,
     }
 }
 
-// Writes the text, and answers how that went, or what lacks.
-fn tell<K: ByteSink>(text: &[u8], lack: Option<SettingsFault>, out: &mut K) -> Status
-    ensures tells { (lacks : Option Lack) → option_map lack_in lack ≡ option_map Some lacks → TellsText text.now lacks result (K.held out.old) (K.held out.new) }
+// Why nothing can be signed by these settings, where it can't.
+fn refusal_of(alloc: Global, settings: &Settings<'_>, source: &Source) -> Mem<Option<Fault>>
+    ensures { IfOk result (λ refusal. option_map refusal_of refusal ≡ settings_refusal (file_paths (map file_of source.now.files.items)) (used_settings_of settings.now)) }
+{
+    match lack(alloc, settings)? {
+        Some(fault) => Ok(Some(Fault::lacking(alloc, fault, source)?)),
+        None => Ok(region_refusal(settings)),
+    }
+}
+
+// Why nothing can be signed for the region, where it is empty.
+fn region_refusal(settings: &Settings<'_>) -> Option<Fault>
+    ensures { option_map refusal_of result ≡ region_refusal (option_map used_of settings.now.region) }
+{
+    match settings.region {
+        Some(region) if region.value.is_empty() => Some(Fault::EmptyRegion),
+        _ => None,
+    }
+}
+
+// Writes the text, and answers how that went, or why nothing can be signed.
+fn tell<K: ByteSink>(text: &[u8], refusal: Option<Fault>, out: &mut K) -> Status
+    ensures tells { TellsText text.now (option_map refusal_of refusal) result (K.held out.old) (K.held out.new) }
     ensures failed { CountsFault (result ≡ Status.OutputFault) (K.faults out.old) (K.faults out.new) }
 {
     match write_all(out, text) {
-        Ok(()) => match lack {
-            Some(fault) => Status::Refused(Fault::Settings(fault)),
+        Ok(()) => match refusal {
+            Some(fault) => Status::Refused(fault),
             None => Status::Done,
         },
         Err(fault) => Status::from(fault),

@@ -9,7 +9,7 @@ use Rattle.smithy_core.specs.Text.{line}
 use Rattle.smithy_core.specs.TextPairs.{first_value}
 use Rattle.smithy_core.specs.declared.format.Format.TheVariants.{DateTime}
 use Rattle.smithy_core.specs.declared.request.HttpRequest.{HttpRequest}
-use Rattle.env_config.specs.Sections.{FileText, sections}
+use Rattle.env_config.specs.Sections.{FileText}
 use Rattle.sigv4.specs.declared.settings.SignatureLocation.{SignatureLocation}
 use Rattle.sigv4.specs.declared.settings.SignatureLocation.TheVariants.{Headers, QueryParams}
 use Rattle.request_door.specs.Doors.{AnswersDoor, DoorInput}
@@ -20,7 +20,7 @@ use Rattle.request_door.specs.declared.limits.Limits.{Limits}
 use Rattle.request_door.specs.declared.payload.DoorPayload.{DoorPayload}
 use Rattle.request_door.specs.declared.payload.DoorPayload.TheVariants.{Digest, Unsigned, UnsignedChunks, SignedChunks}
 use Rattle.awsign_words.specs.Words.{OptionValues}
-use Rattle.aws_settings.specs.Choice.{ChosenKey, profile_of}
+use Rattle.aws_settings.specs.Choice.{ChosenKey}
 use Rattle.awsign_run.specs.Chosen.{SignRefusal, SignsFor, asked_profile, refusal_of, signer_by}
 use Rattle.awsign_run.specs.Guess.{url_host}
 use Rattle.awsign_run.specs.Signing.{is_s3, usual_settings}
@@ -128,7 +128,7 @@ JudgesFor options (Err refusal) request body at result = ⊥
 -- who is chosen for a request, by options, variables and the texts of profile files
 abbrev pub verify_signer : OptionValues → List (List ℕ × List ℕ) → List FileText → HttpRequest → Result SignsFor SignRefusal
 verify_signer options env files request =
-    signer_by options (request_host request.headers (string_bytes request.target)) env (profile_of (sections files) (asked_profile options env))
+    signer_by options (request_host request.headers (string_bytes request.target)) env (asked_profile options env) files
 
 -- the same with the texts of profile files, at a moment that `moment` tells of
 abbrev pub JudgesBy : (Instant → Type 0) → OptionValues → List (List ℕ × List ℕ) → List FileText → HttpRequest → List ℕ → Result (Vec ℕ) VerifyFault → Type 0

@@ -11,8 +11,7 @@ use Rattle.smithy_core.specs.declared.request.HttpRequest.{HttpRequest}
 use Rattle.env_config.specs.Sections.{FileText}
 use Rattle.env_config.specs.declared.load_fault.EnvConfigFileLoadError.{EnvConfigFileLoadError}
 use Rattle.env_config.specs.declared.load_fault.EnvConfigFileLoadError.TheVariants as load
-use Rattle.aws_settings.specs.declared.fault.SettingsFault.TheVariants.{Profile}
-use Rattle.awsign_run.specs.declared.fault.Fault.TheVariants.{Settings}
+use Rattle.awsign_run.specs.declared.fault.Fault.TheVariants.{Profile}
 use Rattle.awsign_words.specs.Words.{OptionValues, VerifyWanted}
 use Rattle.awsign_verify.specs.Message.{HeadParts, head_parts, message_body, message_request}
 use Rattle.awsign_verify.specs.Verify.{JudgesBy}
@@ -49,7 +48,7 @@ read_verify_fault read.NoMemory = NoMemory
 
 -- the fault of profile files that aren't read
 abbrev pub load_verify_fault : EnvConfigFileLoadError → VerifyFault
-load_verify_fault (load.ParseError error) = Refused (Settings (Profile error))
+load_verify_fault (load.ParseError error) = Refused (Profile error)
 load_verify_fault (load.CouldNotReadFile fault) = CouldNotReadFile fault.path
 load_verify_fault load.NoMemory = NoMemory
 

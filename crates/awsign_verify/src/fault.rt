@@ -1,5 +1,4 @@
 //! Why a request isn't verified.
-use aws_settings::SettingsFault;
 use awsign_run::Fault;
 use env_config::EnvConfigFileLoadError;
 use request_door::DoorFault;
@@ -17,7 +16,7 @@ pub enum VerifyFault {
     TooLarge,
     /// The profile file at this path, which an option names, is absent, or the disk failed.
     CouldNotReadFile(String),
-    /// There is no key, no region or no service.
+    /// There is no key, no region or no service, or it is empty.
     Refused(Fault),
     /// The request has this fault, the first in the order of [`admit`](request_door::admit).
     Wrong(DoorFault),
@@ -60,7 +59,7 @@ impl From<EnvConfigFileLoadError> for VerifyFault {
     fn from(inner: EnvConfigFileLoadError) -> VerifyFault {
         match inner {
             EnvConfigFileLoadError::ParseError(error) => {
-                VerifyFault::Refused(Fault::Settings(SettingsFault::Profile(error)))
+                VerifyFault::Refused(Fault::Profile(error))
             }
             EnvConfigFileLoadError::CouldNotReadFile(fault) => {
                 VerifyFault::CouldNotReadFile(fault.path)

@@ -10,7 +10,7 @@ ghost use Rattle.awsign_verify.specs.Verify.{Judges, JudgesBy, JudgesFor, reques
 
 use crate::fault::VerifyFault;
 use crate::told::verified_text;
-use awsign_run::{Signer, is_s3, moment_asked, moment_of, signer_for, url_host, usual_settings};
+use awsign_run::{Chosen, is_s3, moment_asked, moment_of, signer_for, url_host, usual_settings};
 use env_config::Source;
 use request_door::{Admitted, DoorFault, KeyList, Limits, admit};
 use smithy_core::{Clock, Env, HttpRequest, Mem, Moment};
@@ -21,7 +21,7 @@ use std::alloc::Global;
 ///
 /// # Errors
 ///
-/// [`VerifyFault::Refused`] where there is nobody's key, no region or no service, and [`VerifyFault::Wrong`] with the first test of
+/// [`VerifyFault::Refused`] as [`signer_for`](awsign_run::signer_for) has it, and [`VerifyFault::Wrong`] with the first test of
 /// [`admit`](request_door::admit) that the request meets.
 pub(crate) fn judge<C: Clock>(
     alloc: Global,
@@ -75,7 +75,7 @@ fn request_host(request: &HttpRequest) -> &str
 fn judge_for(
     alloc: Global,
     options: &Env,
-    signer: &Signer,
+    signer: &Chosen,
     request: &HttpRequest,
     body: &[u8],
     at: Moment,
@@ -92,7 +92,7 @@ fn judge_for(
 fn admit_for(
     alloc: Global,
     options: &Env,
-    signer: &Signer,
+    signer: &Chosen,
     request: &HttpRequest,
     body: &[u8],
     at: Moment,
@@ -109,7 +109,7 @@ fn admit_for(
 }
 
 // The key of a signer, as the one that a service knows.
-fn keys_of(alloc: Global, signer: &Signer) -> Mem<KeyList>
+fn keys_of(alloc: Global, signer: &Chosen) -> Mem<KeyList>
     ensures { IfOk result (λ keys. keys ≡ ((signs_for_of signer.now).key.id, (signs_for_of signer.now).key.secret) ∷ []) }
 {
     let mut keys = KeyList::new(alloc);

@@ -7,7 +7,7 @@ ghost use Rattle.smithy_core.specs.declared.format.Format.TheVariants.{DateTime}
 ghost use Rattle.awsign_run.specs.Chosen.{signs_for_of};
 ghost use Rattle.awsign_verify.specs.Verify.{payload_words, place_word, second_text, told_line, verified_text, what_lines, who_lines, whole_second};
 
-use awsign_run::Signer;
+use awsign_run::Chosen;
 use request_door::{Admitted, DoorPayload};
 use sigv4::SignatureLocation;
 use smithy_core::{Format, FormatFault, Mem, Moment, is_in_years, push_line};
@@ -15,7 +15,7 @@ use std::alloc::{AllocError, Global};
 
 /// What is told of a request that the service of a signer lets in: a line for each of key, region, service, place, moment, end, signed
 /// headers and payload.
-pub fn verified_text(alloc: Global, signer: &Signer, admitted: &Admitted) -> Mem<Vec<u8>>
+pub fn verified_text(alloc: Global, signer: &Chosen, admitted: &Admitted) -> Mem<Vec<u8>>
     ensures { IfOk result (λ text. text.items ≡ verified_text (signs_for_of signer.now) admitted.now) }
 {
     let mut text = Vec::new(alloc);
@@ -25,7 +25,7 @@ pub fn verified_text(alloc: Global, signer: &Signer, admitted: &Admitted) -> Mem
 }
 
 #[tactic(auto, unfolding(crate::specs::Verify::who_lines))]
-fn push_who(text: &mut Vec<u8>, signer: &Signer, admitted: &Admitted) -> Mem<()>
+fn push_who(text: &mut Vec<u8>, signer: &Chosen, admitted: &Admitted) -> Mem<()>
     ensures { OnOk result (text.new.items ≡ text.old.items ++ who_lines (signs_for_of signer.now) admitted.now) }
 {
     push_told(text, "key", admitted.key_id.as_str())?;

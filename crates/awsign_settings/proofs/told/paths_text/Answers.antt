@@ -1,7 +1,7 @@
 use Rattle.std.proofs.Common.{◌≡◌, ℕ, List, Bor, IfOk, codes, map, take, take_all, arith, ap, sym, subst, string_bytes, ◌∙◌}
 use Rattle.std.specs.List.{join_by}
 use Rattle.awsign_settings.specs.Own.{own_of, own_path}
-use Rattle.awsign_settings.proofs.JoinLemmas.{joined_map}
+use Rattle.awsign_run.proofs.JoinLemmas.{joined_map}
 use Rattle.awsign_settings.proofs.told.paths_text.Goals as goal
 
 pub returns : goal.returns

@@ -2,7 +2,7 @@ use Rattle.std.proofs.Common.{◌≡◌, ℕ, ◌+◌, ◌++◌, List, Bor, IfOk
 use Rattle.std.proofs.lemmas.List.{drop-map, take-map}
 use Rattle.std.specs.List.{join_by}
 use Rattle.awsign_settings.specs.ValueLine.{other_text, text_of_lines}
-use Rattle.awsign_settings.proofs.JoinLemmas.{joined_map}
+use Rattle.awsign_run.proofs.JoinLemmas.{joined_map}
 use Rattle.awsign_settings.proofs.ValueLineLemmas.{lines_from}
 use Rattle.awsign_settings.proofs.value_line.other_text.Goals as goal
 
