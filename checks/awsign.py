@@ -10,6 +10,7 @@ import base64
 import hashlib
 import hmac
 import http.server
+import io
 import json
 import os
 import pty
@@ -30,6 +31,8 @@ ROOT = os.path.join(os.path.dirname(os.path.abspath(__file__)), "..")
 PROGRAM = os.environ.get("AWSIGN") or os.path.join(ROOT, "crates", "awsign", "out", "awsign")
 KEY, SECRET, TOKEN, REGION = "AKIDEXAMPLE", "wJalrXUtnFEMI/K7MDENG+bPxRfiCYEXAMPLEKEY", "TOKEN+/=", "us-east-1"
 BIG = int(os.environ.get("AWSIGN_BIG", 100_000_000))
+LARGE, MOST_MEMORY = 200 << 20, 32 << 10
+SHORT = "/sys/devices/system/cpu/online"
 failed = []
 objects = {}
 
@@ -81,20 +84,19 @@ def unchunked(headers, body, before):
     def own(*lines):
         return hmac.digest(key, "\n".join([lines[0], date, scope, before, *lines[1:]]).encode(), "sha256").hex()
 
-    data, count = b"", 1
+    data, count, body = [], 1, io.BytesIO(body)
     while count:
-        line, body = body.split(b"\r\n", 1)
-        size, mark, carried = line.decode().partition(";chunk-signature=")
+        size, mark, carried = body.readline().removesuffix(b"\r\n").decode().partition(";chunk-signature=")
         count = int(size, 16)
-        piece, body = body[:count], body[count:]
+        piece = body.read(count)
         if signed:
             before = own("AWS4-HMAC-SHA256-PAYLOAD", hashlib.sha256(b"").hexdigest(), hashlib.sha256(piece).hexdigest())
         if (carried != before) if signed else mark:
             return None
-        data += piece
-        if count and body[:2] != b"\r\n":
+        data.append(piece)
+        if count and body.read(2) != b"\r\n":
             return None
-        body = body[2:] if count else body
+    data, body = b"".join(data), body.read()
     pairs = [line.split(":", 1) for line in body.decode().split("\r\n") if line]
     trailers = dict(pairs)
     carried = trailers.pop("x-amz-trailer-signature", None)
@@ -129,7 +131,7 @@ class Listener(http.server.BaseHTTPRequestHandler):
 
     def answer(self):
         digest, length = hashlib.sha256(), int(self.headers.get("content-length") or 0)
-        kept, left = bytearray(), length
+        kept, left, payload = bytearray(), length, self.headers.get("x-amz-content-sha256") or ""
         if self.headers.get("expect"):
             self.send_response_only(100)
             self.end_headers()
@@ -139,14 +141,14 @@ class Listener(http.server.BaseHTTPRequestHandler):
                 break
             left -= len(piece)
             digest.update(piece)
-            if length < 1 << 23:
+            if length < 1 << 23 or payload.startswith("STREAMING-"):
                 kept += piece
         wanted, carried = expected(self, Listener.token)
-        payload = self.headers.get("x-amz-content-sha256")
-        good = wanted == carried and payload in (None, "UNSIGNED-PAYLOAD", digest.hexdigest())
-        if wanted == carried and payload and payload.startswith("STREAMING-"):
-            data = unchunked(self.headers, bytes(kept), carried)
+        good = wanted == carried and payload in ("", "UNSIGNED-PAYLOAD", digest.hexdigest())
+        if wanted == carried and payload.startswith("STREAMING-"):
+            data = unchunked(self.headers, kept, carried)
             good, kept = data is not None, data or b""
+            digest = hashlib.sha256(kept)
         path = self.path.partition("?")[0]
         body, status = b"", 403
         if good and self.command == "PUT":
@@ -289,6 +291,12 @@ def chunked(at, at_body):
         shell(f"chunks, {task}: none", f"awsign chunk PUT {at}/b/chunks --s3 --data /dev/null --out body {words} | {curl}", "200")
     shell("chunks of the input", f"awsign chunk PUT {at}/b/piped --s3 --data - --out body --signed < word | {curl}", "200")
     shell("chunks of the input again", f"awsign sign GET {at}/b/piped --s3 | curl -sS -K -", "hello")
+    for size in (0, 1, 8191, 8192, 8193, 16383, 16384, 16385):
+        for words in ("--signed --checksum crc32", "--checksum sha256"):
+            sent = f"awsign chunk PUT {at}/b/cut --s3 --data cut --out body --size 8192 {words}"
+            shell(f"chunks of {size} bytes, {words}", f"head -c {size} small > cut; {sent} | {curl}", "200")
+            shell(f"chunks of {size} bytes, {words}: again", f"awsign sign GET {at}/b/cut --s3 | curl -sS -K - | cmp - cut", "")
+    large_uploads(at, curl)
     sent = f"awsign chunk PUT {at}/b/altered --s3 --data word --out body --signed --checksum crc32"
     for task, edit in (("data", "s/hello/hallo/"), ("a chunk's signature", "s/^5;chunk-signature=./5;chunk-signature=x/"),
                        ("the last signature", "s/^0;chunk-signature=./0;chunk-signature=x/"), ("a trailer", "s/^x-amz-checksum-crc32:./x-amz-checksum-crc32:x/"),
@@ -306,6 +314,29 @@ def chunked(at, at_body):
     for task, words in (("no file", "--data word"), ("no data", "--out body"), ("size 0", "--data word --out body --size 0"), ("another checksum", "--data word --out body --checksum md5"),
                         ("a payload", "--data word --out body --unsigned")):
         says(f"an upload with {task}", f"awsign chunk PUT {at}/b/x --s3 {words}", 2, "", "awsign: ")
+
+
+def large_uploads(at, curl):
+    """Uploads of files that are larger than the memory that is allowed, and of files that end elsewhere than they say."""
+    with open("large", "wb") as large:
+        for _ in range(LARGE >> 20):
+            large.write(os.urandom(1 << 20))
+    with open("large", "rb") as large:
+        digest = hashlib.file_digest(large, "sha256").hexdigest()
+    for words in ("--signed --checksum sha256", "--signed --size 1048576", "--checksum crc32"):
+        sent = f"awsign chunk PUT {at}/b/large --s3 --data large --out body {words}"
+        shell(f"chunks of a large file, {words}", f"(ulimit -v {MOST_MEMORY}; {sent}) | {curl}", "200")
+        shell(f"chunks of a large file, {words}: again", f"awsign sign GET {at}/b/large --s3 | curl -sS -K -", digest)
+    sent = f"awsign chunk PUT {at}/b/x --s3 --out body --signed"
+    says("chunks of a large input", f"(ulimit -v {MOST_MEMORY}; {sent} --data - < large)", 3, "", "awsign: no memory")
+    shell("chunks in the place of their data", f"cp small own; awsign chunk PUT {at}/b/own --s3 --data own --out own --signed | {curl}", "200")
+    shell("chunks in the place of their data: again", f"awsign sign GET {at}/b/own --s3 | curl -sS -K - | cmp - small", "")
+    shell("chunks of a pipe", f"mkfifo pipe; cat small > pipe & awsign chunk PUT {at}/b/pipe --s3 --data pipe --out body --signed | {curl}", "200")
+    shell("chunks of a pipe: again", f"awsign sign GET {at}/b/pipe --s3 | curl -sS -K - | cmp - small", "")
+    shell("chunks of a file of the system", f"awsign chunk PUT {at}/b/made --s3 --data /proc/self/limits --out body --signed | {curl}", "200")
+    if os.path.exists(SHORT) and os.stat(SHORT).st_size == 4096:
+        says("chunks of a file that is shorter than it says", f"{sent} --data {SHORT}", 3, "", "awsign: the data changed while it was read\n")
+    os.remove("large")
 
 
 def verified(at):

@@ -5,7 +5,7 @@
 mod help;
 
 use crate::help::text_asked;
-use awsign_chunk::{ChunkStatus, ChunkedUpload, make_upload, say_chunk, write_upload};
+use awsign_chunk::{ChunkStatus, ChunkedUpload, held_data, make_upload, say_chunk, write_upload};
 use awsign_events::{
     EventsStatus, decode_events, encode_events, read_hex, say_events, verify_events,
 };
@@ -15,8 +15,9 @@ use awsign_verify::{VerifyStatus, run_verify, say_verify};
 use awsign_words::{Asked, AskedCommand, EventsAction, EventsAsked, VerifyAsked, read_command};
 use program_start::{StartFault, words_and_env};
 use smithy_core::{ByteSource, CalmSource, Env, HostDisk, StdSink, StdSource, SystemClock};
-use std::fs::File;
+use std::fs::{File, Metadata, metadata};
 use std::io::{IsTerminal, Stdout};
+use std::os::unix::fs::MetadataExt;
 use std::process::ExitCode;
 
 /// The number that the process ends with where whoever read the output left before its end: what a shell says of a program that
@@ -162,11 +163,44 @@ fn chunk(rt: &HostRuntime, asked: Asked<'_>, env: &Env, out: &mut StdSink<Stdout
     let asked = asked.with_url(url.as_str());
     tell_host(rt, &asked);
     match asked.options.get("--data") {
-        None | Some("-") => chunk_shown(rt, &asked, env, StdSource::new(rt.reader()), out),
+        None | Some("-") => chunk_held(rt, &asked, env, StdSource::new(rt.reader()), out),
         Some(path) => match File::open(rt, path) {
-            Ok(file) => chunk_shown(rt, &asked, env, StdSource::new(file), out),
+            Ok(file) => chunk_file(rt, &asked, env, file, out),
             Err(_) => ChunkStatus::Ended(Status::DataFault),
         },
+    }
+}
+
+// Writes the data of a file in chunks, while it is read where its length is told.
+fn chunk_file(
+    rt: &HostRuntime,
+    asked: &Asked<'_>,
+    env: &Env,
+    file: File,
+    out: &mut StdSink<Stdout>,
+) -> ChunkStatus {
+    match told_length(rt, &file, asked.options.get("--out").unwrap_or("")) {
+        Some(length) => chunk_shown(rt, asked, env, StdSource::new(file), length, out),
+        None => chunk_held(rt, asked, env, StdSource::new(file), out),
+    }
+}
+
+// How long the data of a file is, where that is told before it is read. A pipe tells nothing, and a file that the system makes while it
+// is read tells 0. Nor can it be read while the body takes its place.
+fn told_length(rt: &HostRuntime, file: &File, out: &str) -> Option<u64> {
+    let told = file.metadata().ok()?;
+    if told.is_file() && told.len() > 0 && !is_at(rt, &told, out) {
+        Some(told.len())
+    } else {
+        None
+    }
+}
+
+// Whether a path leads to this file.
+fn is_at(rt: &HostRuntime, told: &Metadata, path: &str) -> bool {
+    match metadata(rt, path) {
+        Ok(other) => other.dev() == told.dev() && other.ino() == told.ino(),
+        Err(_) => false,
     }
 }
 
@@ -176,46 +210,78 @@ fn chunk_shown<S: ByteSource + Drop>(
     asked: &Asked<'_>,
     env: &Env,
     mut data: S,
+    length: u64,
     out: &mut StdSink<Stdout>,
 ) -> ChunkStatus {
     if !rt.stderr().is_terminal() {
-        return chunk_over(rt, asked, env, &mut data, out);
+        return chunk_over(rt, asked, env, &mut data, length, out);
     }
     let err = StdSink::new(rt.stderr());
     let mut data = ProgressSource::new(rt.alloc(), data, err);
-    chunk_over(rt, asked, env, &mut data, out)
+    chunk_over(rt, asked, env, &mut data, length, out)
 }
 
-// Writes the data of a source in chunks.
+// Writes the data of a source that doesn't tell its length in chunks.
+fn chunk_held<S: ByteSource + Drop>(
+    rt: &HostRuntime,
+    asked: &Asked<'_>,
+    env: &Env,
+    data: S,
+    out: &mut StdSink<Stdout>,
+) -> ChunkStatus {
+    match held_shown(rt, data) {
+        Ok(bytes) => {
+            let length = bytes.len() as u64;
+            chunk_over(rt, asked, env, &mut CalmSource::new(bytes), length, out)
+        }
+        Err(status) => status,
+    }
+}
+
+// All data of a source, of which is shown on a terminal how much is read.
+fn held_shown<S: ByteSource + Drop>(rt: &HostRuntime, mut data: S) -> Result<Vec<u8>, ChunkStatus> {
+    if !rt.stderr().is_terminal() {
+        return held_data(rt.alloc(), &mut data);
+    }
+    let err = StdSink::new(rt.stderr());
+    held_data(rt.alloc(), &mut ProgressSource::new(rt.alloc(), data, err))
+}
+
+// Writes the data of a source in chunks, of which there are so many bytes.
 fn chunk_over<S: ByteSource>(
     rt: &HostRuntime,
     asked: &Asked<'_>,
     env: &Env,
     data: &mut S,
+    length: u64,
     out: &mut StdSink<Stdout>,
 ) -> ChunkStatus {
     let mut disk = HostDisk::new(rt.alloc(), rt);
     let mut clock = SystemClock::new(rt);
-    match make_upload(rt.alloc(), asked, env, data, &mut disk, &mut clock) {
-        Ok(upload) => write_out(rt, &upload, asked.options.get("--out").unwrap_or(""), out),
+    match make_upload(rt.alloc(), asked, env, length, &mut disk, &mut clock) {
+        Ok(upload) => write_out(
+            rt,
+            upload,
+            asked.options.get("--out").unwrap_or(""),
+            data,
+            out,
+        ),
         Err(status) => status,
     }
 }
 
 // Writes an upload: its body to the file at a path, and its head to the output. A standard input or output that is closed leaves its
 // number to the next file that is opened: two others take those, or the head would follow the body.
-fn write_out(
+fn write_out<S: ByteSource>(
     rt: &HostRuntime,
-    upload: &ChunkedUpload,
+    upload: ChunkedUpload,
     path: &str,
+    data: &mut S,
     out: &mut StdSink<Stdout>,
 ) -> ChunkStatus {
     let _taken = (File::open(rt, "/dev/null"), File::open(rt, "/dev/null"));
     match File::create(rt, path) {
-        Ok(file) => {
-            let mut body = StdSink::new(file);
-            write_upload(upload, &mut body, out)
-        }
+        Ok(file) => write_upload(rt.alloc(), upload, data, &mut StdSink::new(file), out),
         Err(_) => ChunkStatus::FileFault,
     }
 }

@@ -1,3 +1,5 @@
+pub mod AnnouncedLemmas
 pub mod ChunkRunLemmas
+pub mod SendingLemmas
 pub mod SentLemmas
-pub mod SoundLemmas
+pub mod SumLemmas

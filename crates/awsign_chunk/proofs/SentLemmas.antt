@@ -1,21 +1,19 @@
 -- What is sent, or why there is none.
-use Rattle.std.proofs.Common.{◌≡◌, ◌≤◌, ◌⊎◌, ℕ, Bool, true, false, inl, inr, List, length, Option, Some, None, codes, refl, ap, subst, ◌∙◌}
+use Rattle.std.proofs.Common.{◌≡◌, ◌⊎◌, ℕ, Bool, true, false, inl, inr, List, Option, Some, None, codes, refl, ap, subst, ◌∙◌}
 use Rattle.std.specs.Prelude.{IsTrue, Result, Ok, Err, string_bytes}
-use Rattle.std.specs.Global.{Vec}
 use Rattle.smithy_core.specs.Civil.{is_in_years}
 use Rattle.smithy_core.specs.Moment.{Instant}
 use Rattle.smithy_core.specs.TextPairs.{last_value}
-use Rattle.smithy_http.specs.QueryWriter.{SpellsTarget}
 use Rattle.smithy_http.specs.Target.{Target, target_of}
+use Rattle.sigv4.specs.ChunkTold.{signs_over}
 use Rattle.sigv4.specs.Host.{host_text}
 use Rattle.sigv4.specs.Refusal.{unfit_headers}
 use Rattle.sigv4.specs.Request.{Case}
-use Rattle.sigv4.specs.Signed.{signature_of, signed_headers, signed_target}
+use Rattle.sigv4.specs.Signed.{signed_headers, signed_target}
 use Rattle.sigv4.specs.declared.error.SigningError.{SigningError}
 use Rattle.sigv4.specs.declared.error.SigningError.TheVariants.{MomentOutOfRange}
 use Rattle.aws_chunked.specs.Announcement.{announced_payload, unannounced}
 use Rattle.aws_chunked.specs.Body.{Trailer}
-use Rattle.aws_chunked.specs.Options.{Options}
 use Rattle.aws_chunked.specs.declared.announcement.AnnounceFault.{AnnounceFault}
 use Rattle.aws_chunked.specs.declared.announcement.AnnounceFault.TheVariants as announce
 use Rattle.awsign_words.specs.Words.{SignWanted, sign_wanted}
@@ -27,10 +25,11 @@ use Rattle.awsign_run.specs.declared.fault.Fault.{Fault}
 use Rattle.awsign_run.specs.declared.fault.Fault.TheVariants.{NoMemory as FaultNoMemory}
 use Rattle.awsign_run.specs.declared.signing.SignedRequest.{SignedRequest}
 use Rattle.awsign_run.specs.declared.status.Status.TheVariants.{Done, BadWord, CouldNotReadFile, DataFault, Refused, OutputFault, NoMemory}
-use Rattle.awsign_chunk.specs.Sent.{AnnouncesBody, IsAnnouncedAs, IsDeclared, MakesSent, MakesSentFor, announced_wanted, chunks_signer, sent_body, sent_options, signs_chunks, unannounced_status}
+use Rattle.awsign_chunk.specs.Sent.{AnnouncesBody, IsAnnouncedAs, IsUploadBehind, IsUploadOf, MakesSent, MakesSentFor, announced_trailers, announced_wanted, chunks_signer, sent_case, sent_options, signs_chunks, unannounced_status}
 use Rattle.awsign_chunk.specs.declared.sent.Announced.{Announced}
+use Rattle.awsign_chunk.specs.declared.sent.ChunkedUpload.{ChunkedUpload}
 use Rattle.awsign_chunk.specs.declared.status.ChunkStatus.{ChunkStatus}
-use Rattle.awsign_chunk.specs.declared.status.ChunkStatus.TheVariants.{DataTooLong, Ended, FileFault, Unannounced, UnfitTrailer}
+use Rattle.awsign_chunk.specs.declared.status.ChunkStatus.TheVariants.{DataChanged, DataTooLong, Ended, FileFault, Unannounced, UnfitTrailer}
 
 -- what is signed is signed in the years 0 to 9999
 pub signed_in_years : (c : Case) → asked_refusal c ≡ None → IsTrue (is_in_years c.at)
@@ -39,15 +38,6 @@ signed_in_years c none = by (is_in_years c.at) refl
     by : (years : Bool) → is_in_years c.at ≡ years → is_in_years c.at ≡ true
     by true is = is
     by false late = absurd (let no : ◌≡◌ {A = Option SigningError} (Some (MomentOutOfRange c.at)) None = rw late at none in cc)
-
--- an announced body is as declared
-pub declared : (wanted : SignWanted) (bytes : List ℕ) (trailers : List Trailer) (announced : Announced) → IsAnnouncedAs wanted (length bytes) trailers announced
-    → length bytes ≤ 4294967295 → IsDeclared announced.options bytes trailers
-declared wanted bytes trailers announced is short = record {
-  announced = rw is.options is.fit.1;
-  long = ap (λ (o : Options). o.stream_length) is.options;
-  short = short;
-}
 
 -- why a body isn't announced
 announced_not : (wanted : SignWanted) (n : ℕ) (trailers : List Trailer) (fault : AnnounceFault) → unfit_headers 1 trailers ≡ None
@@ -65,9 +55,9 @@ printed_before : (asks : SignWanted) (case : Target → Case) (signed : SignedRe
     → text ≡ text_in_form (asked_form asks) asks.method (signed_target (case (target_of signed.uri)) asks.url) (signed_headers (case (target_of signed.uri))) (host_text (target_of signed.uri)) file
 printed_before asks case signed file text signs printed = rw (← signs.2, ← signs.3, ← signs.4) printed
 
-module _ (wanted : SignWanted) (bytes : List ℕ) (trailers : List Trailer) (signer : SignsFor) (at : Instant) where
+module _ (wanted : SignWanted) (n : ℕ) (signer : SignsFor) (at : Instant) where
   -- a body that isn't announced isn't sent
-  pub not_sent : (status : ChunkStatus) → AnnouncesBody wanted (length bytes) trailers (Err status) → MakesSent wanted bytes trailers signer at (Err status)
+  pub not_sent : (status : ChunkStatus) → AnnouncesBody wanted n (announced_trailers wanted) (Err status) → MakesSent wanted n signer at (Err status)
   not_sent (UnfitTrailer error) is = is
   not_sent (Unannounced fault) is = is
   not_sent (Ended NoMemory) is = tt
@@ -78,68 +68,68 @@ module _ (wanted : SignWanted) (bytes : List ℕ) (trailers : List Trailer) (sig
   not_sent (Ended (Refused fault)) is = absurd is
   not_sent (Ended OutputFault) is = absurd is
   not_sent DataTooLong is = absurd is
+  not_sent DataChanged is = absurd is
   not_sent FileFault is = absurd is
 
-  module _ (announced : Announced) (is : IsAnnouncedAs wanted (length bytes) trailers announced) where
+  module _ (announced : Announced) (is : IsAnnouncedAs wanted n (announced_trailers wanted) announced) where
     -- the request is refused
     pub request_refused : (fault : Fault) → SignsAsked (sign_wanted announced.asked) (asked_case (sign_wanted announced.asked) signer (string_bytes announced.payload) at) (Err fault)
-        → MakesSent wanted bytes trailers signer at (Err (Ended (fault_status fault)))
-    request_refused fault refused = by fault (subst (λ (text : List ℕ). Refuses asks text fault) is.payload (subst (λ (w : SignWanted). Refuses w (string_bytes announced.payload) fault) is.asked refused))
+        → MakesSent wanted n signer at (Err (Ended (fault_status fault)))
+    request_refused fault refused =
+        by fault
+        (subst (λ (text : List ℕ). Refuses (announced_wanted wanted n (announced_trailers wanted)) text fault) is.payload
+        (subst (λ (w : SignWanted). Refuses w (string_bytes announced.payload) fault) is.asked refused))
       where
-        asks : SignWanted
-        asks = announced_wanted wanted (length bytes) trailers
-
         Refuses : SignWanted → List ℕ → Fault → Type 0
         Refuses w text why = SignsPrinted w (asked_case w signer text at) (Err why)
 
-        by : (why : Fault) → Refuses asks (announced_payload (signs_chunks wanted.options) trailers) why → MakesSent wanted bytes trailers signer at (Err (Ended (fault_status why)))
+        by : (why : Fault) → Refuses (announced_wanted wanted n (announced_trailers wanted)) (announced_payload (signs_chunks wanted.options) (announced_trailers wanted)) why
+            → MakesSent wanted n signer at (Err (Ended (fault_status why)))
         by FaultNoMemory refuses = tt
         by why refuses = (is.fit, refuses)
 
-    -- the request is signed, and printed before its body
-    pub request_sent : (signed : SignedRequest) (head body : Vec ℕ)
+    -- the request is signed, and its body is to go on from its signature
+    pub request_sent : (signed : SignedRequest) (upload : ChunkedUpload)
         → SignsAsked (sign_wanted announced.asked) (asked_case (sign_wanted announced.asked) signer (string_bytes announced.payload) at) (Ok signed)
-        → IsPrinted (sign_wanted announced.asked) signed (last_value announced.asked.options (codes "--out")) head.items
-        → body.items ≡ sent_body announced.options.is_signed (chunks_signer signer) at (string_bytes signed.signature) announced.options.chunk_size bytes trailers
-        → MakesSent wanted bytes trailers signer at (Ok (record { head = head; body = body }))
-    request_sent signed head body signs printed made = (is.fit, (signed.uri, sent.0, (sent.1, sent.2, sent.3)))
+        → IsUploadBehind (sign_wanted announced.asked) signed announced.options signer n at upload → MakesSent wanted n signer at (Ok upload)
+    request_sent signed upload signs behind = (signed.uri, made)
       where
-        Sends : SignWanted → List ℕ → Options → Type 0
-        Sends w text options =
-            let c = asked_case w signer text at (target_of signed.uri) in
-            SpellsTarget w.url signed.uri × (asked_refusal c ≡ None)
-            × (head.items ≡ text_in_form (asked_form w) w.method (signed_target c w.url) (signed_headers c) (host_text (target_of signed.uri)) (last_value w.options (codes "--out")))
-            × (body.items ≡ sent_body options.is_signed (chunks_signer signer) at (signature_of c) options.chunk_size bytes trailers)
+        Sends : SignWanted → List ℕ → Type 0
+        Sends w text =
+            SignsAsked w (asked_case w signer text at) (Ok signed) × IsUploadBehind w signed announced.options signer n at upload
 
-        asks : SignWanted
-        asks = sign_wanted announced.asked
-
-        first : Sends asks (string_bytes announced.payload) announced.options
-        first = (
-          signs.0,
-          signs.1,
-          printed_before asks (asked_case asks signer (string_bytes announced.payload) at) signed (last_value asks.options (codes "--out")) head.items signs printed,
-          made ∙ ap (λ (before : List ℕ). sent_body announced.options.is_signed (chunks_signer signer) at before announced.options.chunk_size bytes trailers) signs.5,
-        )
-
-        sent : Sends (announced_wanted wanted (length bytes) trailers) (announced_payload (signs_chunks wanted.options) trailers) (sent_options wanted.options (length bytes) trailers)
+        sent : Sends (announced_wanted wanted n (announced_trailers wanted)) (announced_payload (signs_chunks wanted.options) (announced_trailers wanted))
         sent =
-            subst (Sends (announced_wanted wanted (length bytes) trailers) (announced_payload (signs_chunks wanted.options) trailers)) is.options
-            (subst (λ (text : List ℕ). Sends (announced_wanted wanted (length bytes) trailers) text announced.options) is.payload
-            (subst (λ (w : SignWanted). Sends w (string_bytes announced.payload) announced.options) is.asked first))
+            subst (λ (text : List ℕ). Sends (announced_wanted wanted n (announced_trailers wanted)) text) is.payload
+            (subst (λ (w : SignWanted). Sends w (string_bytes announced.payload)) is.asked (signs, behind))
 
-module _ (wanted : SignWanted) (bytes : List ℕ) (at : Instant) where
+        made : IsUploadOf wanted n signer at signed.uri upload
+        made = record {
+          spelled = sent.0.0;
+          fit = is.fit;
+          taken = sent.0.1;
+          head = printed_before (announced_wanted wanted n (announced_trailers wanted)) (sent_case wanted n (announced_trailers wanted) signer at) signed
+              (last_value wanted.options (codes "--out")) upload.head.items sent.0 sent.1.head;
+          long = sent.1.long;
+          options = sent.1.options ∙ is.options;
+          is_signed = sent.1.is_signed;
+          trailers = sent.1.trailers;
+          over = sent.1.over ∙ ap (λ (before : List ℕ). signs_over before (chunks_signer signer) at) sent.0.5;
+          sum = sent.1.sum;
+        }
+
+module _ (wanted : SignWanted) (n : ℕ) (at : Instant) where
   -- memory may always run out
-  out_of_memory : (planned : Result SignsFor SignRefusal) → MakesSentFor wanted bytes planned at (Err (Ended NoMemory))
+  out_of_memory : (planned : Result SignsFor SignRefusal) → MakesSentFor wanted n planned at (Err (Ended NoMemory))
   out_of_memory (Ok signer) = tt
   out_of_memory (Err refusal) = tt
 
   -- why nobody is chosen
-  refused : (fault : Fault) → MakesSentFor wanted bytes (Err (refusal_of fault)) at (Err (Ended (fault_status fault)))
+  refused : (fault : Fault) → MakesSentFor wanted n (Err (refusal_of fault)) at (Err (Ended (fault_status fault)))
   refused FaultNoMemory = tt
   refused fault = refl
 
   -- nobody is chosen
-  pub nobody_sends : (planned : Result SignsFor SignRefusal) (fault : Fault) → IsFaultOf planned fault → MakesSentFor wanted bytes planned at (Err (Ended (fault_status fault)))
+  pub nobody_sends : (planned : Result SignsFor SignRefusal) (fault : Fault) → IsFaultOf planned fault → MakesSentFor wanted n planned at (Err (Ended (fault_status fault)))
   nobody_sends planned fault (inl is) = rw is (refused fault)
   nobody_sends planned fault (inr is) = rw is (out_of_memory planned)

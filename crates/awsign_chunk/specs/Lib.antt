@@ -1,3 +1,5 @@
 pub mod ChunkRun
 pub mod ChunkSaying
+pub mod Sending
 pub mod Sent
+pub mod Sum

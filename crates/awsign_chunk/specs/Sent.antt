@@ -1,5 +1,5 @@
 -- What `awsign chunk` sends: a body in chunks, and before it the head that announces it.
-use Rattle.std.specs.Prelude.{◌≡◌, ◌≤◌, ℕ, Bool, true, false, List, [], ◌∷◌, ◌++◌, codes, length, Option, Some, None, unwrap_or, Result, Ok, Err, string_bytes}
+use Rattle.std.specs.Prelude.{◌≡◌, ℕ, Bool, true, false, List, [], ◌∷◌, ◌++◌, codes, Option, Some, None, unwrap_or, Result, Ok, Err, string_bytes}
 use Rattle.std.specs.Int.{to_be_bytes, w32}
 use Rattle.std.specs.Option.{option_and_then}
 use Rattle.base64.specs.Engines.{standard}
@@ -13,10 +13,12 @@ use Rattle.smithy_http.specs.QueryWriter.{SpellsTarget}
 use Rattle.smithy_http.specs.Target.{Target, target_of}
 use Rattle.eventstream.specs.Key.{Signer}
 use Rattle.job_text.specs.ChunkSize.{spelled_size}
+use Rattle.sigv4.specs.ChunkTold.{signs_over}
 use Rattle.sigv4.specs.Host.{host_text}
 use Rattle.sigv4.specs.Refusal.{unfit_headers}
 use Rattle.sigv4.specs.Request.{Case}
 use Rattle.sigv4.specs.Signed.{signature_of, signed_headers, signed_target}
+use Rattle.aws_auth.specs.ChunkSigner.{chunk_told}
 use Rattle.aws_chunked.specs.Announcement.{announced_headers, announced_payload, options_for, unannounced}
 use Rattle.aws_chunked.specs.Body.{Trailer}
 use Rattle.aws_chunked.specs.Due.{signed_chunked_text}
@@ -29,8 +31,10 @@ use Rattle.awsign_words.specs.Words.{OptionValues, SignWanted, checksum_named, h
 use Rattle.awsign_words.specs.declared.words.Checksum.{Checksum}
 use Rattle.awsign_words.specs.declared.words.Checksum.TheVariants.{Crc32, Sha256}
 use Rattle.awsign_run.specs.Chosen.{SignRefusal, SignsFor, refusal_of}
-use Rattle.awsign_run.specs.Signing.{SignsPrinted, asked_case, asked_form, asked_refusal}
+use Rattle.awsign_run.specs.Signing.{IsPrinted, SignsPrinted, asked_case, asked_form, asked_refusal}
+use Rattle.awsign_run.specs.declared.signing.SignedRequest.{SignedRequest}
 use Rattle.awsign_run.specs.declared.status.Status.TheVariants.{NoMemory, Refused}
+use Rattle.awsign_chunk.specs.Sum.{HoldsSum}
 use Rattle.awsign_chunk.specs.declared.sent.Announced.{Announced}
 use Rattle.awsign_chunk.specs.declared.sent.ChunkedUpload.{ChunkedUpload}
 use Rattle.awsign_chunk.specs.declared.status.ChunkStatus.{ChunkStatus}
@@ -64,6 +68,10 @@ checksum_trailers (Some checksum) bytes = checksum_trailer checksum bytes ∷ []
 abbrev pub sent_trailers : SignWanted → List ℕ → List Trailer
 sent_trailers wanted bytes = wanted.trailers ++ checksum_trailers (sent_checksum wanted.options) bytes
 
+-- the trailers before the data is read: with the checksum of nothing, which is as long as that of any data
+abbrev pub announced_trailers : SignWanted → List Trailer
+announced_trailers wanted = sent_trailers wanted []
+
 -- how a body of this length with these trailers is encoded
 abbrev pub sent_options : OptionValues → ℕ → List Trailer → Options
 sent_options options n trailers = record (options_for n trailers (signs_chunks options)) { chunk_size = sent_size options }
@@ -92,37 +100,46 @@ abbrev pub sent_body : Bool → Signer → Instant → List ℕ → ℕ → List
 sent_body true who at before size bytes trailers = signed_chunked_text who at before size bytes trailers
 sent_body false who at before size bytes trailers = chunked_text size bytes trailers
 
--- this is the upload, for what the URL spells: its head is signed, and its body goes on from that signature
-abbrev pub IsSentAs : SignWanted → List ℕ → List Trailer → SignsFor → Instant → Uri → ChunkedUpload → Type 0
-IsSentAs wanted bytes trailers signer at uri upload =
-    let c = sent_case wanted (length bytes) trailers signer at (target_of uri) in
-    (asked_refusal c ≡ None) × (upload.head.items ≡ sent_head wanted (target_of uri) c)
-    × (upload.body.items ≡ sent_body (signs_chunks wanted.options) (chunks_signer signer) at (signature_of c) (sent_size wanted.options) bytes trailers)
-
 -- no trailer is outside the grammar of headers, and the body can be announced
 abbrev pub IsFitToSend : SignWanted → ℕ → List Trailer → Type 0
 IsFitToSend wanted n trailers = (unfit_headers 1 trailers ≡ None) × (unannounced (sent_options wanted.options n trailers) trailers ≡ None)
 
--- the upload of data and trailers by somebody at a moment; or the first reason why there is none: a trailer, the announcement, or the request; or memory
--- ran out
-abbrev pub MakesSent : SignWanted → List ℕ → List Trailer → SignsFor → Instant → Result ChunkedUpload ChunkStatus → Type 0
-MakesSent wanted bytes trailers signer at (Ok upload) =
-    IsFitToSend wanted (length bytes) trailers × ((uri : Uri) × SpellsTarget wanted.url uri × IsSentAs wanted bytes trailers signer at uri upload)
-MakesSent wanted bytes trailers signer at (Err (UnfitTrailer error)) = unfit_headers 1 trailers ≡ Some error
-MakesSent wanted bytes trailers signer at (Err (Unannounced fault)) =
-    (unfit_headers 1 trailers ≡ None) × (unannounced (sent_options wanted.options (length bytes) trailers) trailers ≡ Some fault)
-MakesSent wanted bytes trailers signer at (Err (Ended (Refused fault))) =
-    IsFitToSend wanted (length bytes) trailers
-    × SignsPrinted (announced_wanted wanted (length bytes) trailers) (sent_case wanted (length bytes) trailers signer at) (Err fault)
-MakesSent wanted bytes trailers signer at (Err (Ended NoMemory)) = Unit {0}
-MakesSent wanted bytes trailers signer at (Err status) = ⊥
+-- the request of an upload of so many bytes, for what the URL spells
+abbrev pub upload_case : SignWanted → ℕ → SignsFor → Instant → Uri → Case
+upload_case wanted n signer at uri = sent_case wanted n (announced_trailers wanted) signer at (target_of uri)
+
+-- this is the upload of so many bytes, for what the URL spells: its head is signed, and its body is to go on from that signature
+pub record IsUploadOf (wanted : SignWanted) (n : ℕ) (signer : SignsFor) (at : Instant) (uri : Uri) (upload : ChunkedUpload) : Type 0 where
+  pub spelled : SpellsTarget wanted.url uri
+  pub fit : IsFitToSend wanted n (announced_trailers wanted)
+  pub taken : asked_refusal (upload_case wanted n signer at uri) ≡ None
+  pub head : upload.head.items ≡ sent_head wanted (target_of uri) (upload_case wanted n signer at uri)
+  pub long : upload.plan.length ≡ n
+  pub options : upload.plan.options ≡ sent_options wanted.options n (announced_trailers wanted)
+  pub is_signed : upload.plan.is_signed ≡ signs_chunks wanted.options
+  pub trailers : upload.plan.trailers ≡ wanted.trailers
+  pub over : chunk_told upload.running.signer ≡ signs_over (signature_of (upload_case wanted n signer at uri)) (chunks_signer signer) at
+  pub sum : HoldsSum upload.running.sum (sent_checksum wanted.options) []
+
+-- the upload of so many bytes by somebody at a moment; or the first reason why there is none: a trailer, the announcement, or the request; or memory ran out
+abbrev pub MakesSent : SignWanted → ℕ → SignsFor → Instant → Result ChunkedUpload ChunkStatus → Type 0
+MakesSent wanted n signer at (Ok upload) = (uri : Uri) × IsUploadOf wanted n signer at uri upload
+MakesSent wanted n signer at (Err (UnfitTrailer error)) = unfit_headers 1 (announced_trailers wanted) ≡ Some error
+MakesSent wanted n signer at (Err (Unannounced fault)) =
+    (unfit_headers 1 (announced_trailers wanted) ≡ None)
+    × (unannounced (sent_options wanted.options n (announced_trailers wanted)) (announced_trailers wanted) ≡ Some fault)
+MakesSent wanted n signer at (Err (Ended (Refused fault))) =
+    IsFitToSend wanted n (announced_trailers wanted)
+    × SignsPrinted (announced_wanted wanted n (announced_trailers wanted)) (sent_case wanted n (announced_trailers wanted) signer at) (Err fault)
+MakesSent wanted n signer at (Err (Ended NoMemory)) = Unit {0}
+MakesSent wanted n signer at (Err status) = ⊥
 
 -- the same for who is chosen, or why nobody is
-abbrev pub MakesSentFor : SignWanted → List ℕ → Result SignsFor SignRefusal → Instant → Result ChunkedUpload ChunkStatus → Type 0
-MakesSentFor wanted bytes (Ok signer) at result = MakesSent wanted bytes (sent_trailers wanted bytes) signer at result
-MakesSentFor wanted bytes (Err refusal) at (Err (Ended (Refused fault))) = refusal_of fault ≡ refusal
-MakesSentFor wanted bytes (Err refusal) at (Err (Ended NoMemory)) = Unit {0}
-MakesSentFor wanted bytes (Err refusal) at result = ⊥
+abbrev pub MakesSentFor : SignWanted → ℕ → Result SignsFor SignRefusal → Instant → Result ChunkedUpload ChunkStatus → Type 0
+MakesSentFor wanted n (Ok signer) at result = MakesSent wanted n signer at result
+MakesSentFor wanted n (Err refusal) at (Err (Ended (Refused fault))) = refusal_of fault ≡ refusal
+MakesSentFor wanted n (Err refusal) at (Err (Ended NoMemory)) = Unit {0}
+MakesSentFor wanted n (Err refusal) at result = ⊥
 
 -- ## On the way
 
@@ -147,8 +164,12 @@ AnnouncesBody wanted n trailers (Err (Unannounced fault)) =
 AnnouncesBody wanted n trailers (Err (Ended NoMemory)) = Unit {0}
 AnnouncesBody wanted n trailers (Err status) = ⊥
 
--- data and trailers that are as declared
-pub record IsDeclared (options : Options) (bytes : List ℕ) (trailers : List Trailer) : Type 0 where
-  pub announced : unannounced options trailers ≡ None
-  pub long : options.stream_length ≡ length bytes
-  pub short : length bytes ≤ 4294967295
+-- a signed request and what goes on from it
+pub record IsUploadBehind (asks : SignWanted) (signed : SignedRequest) (encoding : Options) (signer : SignsFor) (n : ℕ) (at : Instant) (upload : ChunkedUpload) : Type 0 where
+  pub head : IsPrinted asks signed (last_value asks.options (codes "--out")) upload.head.items
+  pub long : upload.plan.length ≡ n
+  pub options : upload.plan.options ≡ encoding
+  pub is_signed : upload.plan.is_signed ≡ signs_chunks asks.options
+  pub trailers : upload.plan.trailers ≡ asks.trailers
+  pub over : chunk_told upload.running.signer ≡ signs_over (string_bytes signed.signature) (chunks_signer signer) at
+  pub sum : HoldsSum upload.running.sum (sent_checksum asks.options) []

@@ -1,19 +1,27 @@
 //! Writes a body in chunks, and the head of its request, as the tool `awsign chunk` does.
 //!
-//! The program is promised of [`make_upload`]: where it answers a [`ChunkedUpload`], its head is the signed request of the words, which
-//! announces the body, and its body the text of all data that the source had left and of the trailers, in chunks that are signed from the
-//! request's signature on, or not at all, as the words ask; and where there is none it answers the first reason (`specs/ChunkRun.antt`, and
-//! below it `specs/Sent.antt`). [`write_upload`] writes the body, and then the head.
+//! The program is promised of [`make_upload`] and [`write_upload`]: where the first answers a [`ChunkedUpload`], its head is the signed
+//! request of the words, which announces data of a length; and what the second writes is the text of all data that a source had left and of
+//! the trailers, in chunks that are signed from the request's signature on, or not at all, as the words ask, and then that head; or the
+//! first reason why there is none, or a front of the body and why (`specs/ChunkRun.antt`, and below it `specs/Sent.antt`). Data of any
+//! length passes in the memory of two chunks (`specs/Sending.antt`); [`held_data`] is for data whose length nobody tells.
 #![tactic(auto)]
 
-mod body;
+mod chunks;
+mod front;
 mod run;
 mod saying;
+mod send;
 mod sent;
 mod status;
+mod sum;
+mod text;
 mod trailers;
 
-pub use crate::run::{make_upload, write_upload};
+pub use crate::chunks::ChunkSigner;
+pub use crate::run::{held_data, make_upload};
 pub use crate::saying::say_chunk;
-pub use crate::sent::ChunkedUpload;
+pub use crate::send::write_upload;
+pub use crate::sent::{BodyPlan, ChunkedUpload, Running};
 pub use crate::status::ChunkStatus;
+pub use crate::sum::RunningSum;

@@ -37,6 +37,7 @@ fn status_line(alloc: Global, status: &ChunkStatus) -> Mem<String>
             tool_line(alloc, text.as_str())
         }
         ChunkStatus::DataTooLong => tool_line(alloc, "the data has over 4294967295 bytes"),
+        ChunkStatus::DataChanged => tool_line(alloc, "the data changed while it was read"),
         ChunkStatus::FileFault => tool_line(alloc, "could not write the file that --out names"),
     }
 }

@@ -1,28 +1,52 @@
-//! What is sent: the head and the body.
-ghost use Rattle.std.specs.Prelude.{◌≡◌, ◌≤◌, IfOk, IsTrue, length, string_bytes};
-ghost use Rattle.smithy_core.specs.Civil.{is_in_years};
+//! What is sent: the signed request, and how its body is made.
+ghost use Rattle.std.specs.Prelude.{◌≡◌, ◌≤◌, IfOk, string_bytes};
 ghost use Rattle.awsign_run.specs.Chosen.{signs_for_of};
-ghost use Rattle.awsign_chunk.specs.Sent.{AnnouncesBody, IsAnnouncedAs, IsDeclared, MakesSent, chunks_signer, sent_body, sent_options, sent_size, sent_trailers};
+ghost use Rattle.awsign_chunk.specs.Sent.{AnnouncesBody, IsAnnouncedAs, IsUploadBehind, MakesSent, announced_trailers, sent_options, sent_size, signs_chunks};
 ghost use Rattle.awsign_words.specs.Words.{SignWanted, sign_wanted};
 
-use crate::body::{all_text, body_of, chunk_signer};
+use crate::chunks::{ChunkSigner, chunk_signer};
 use crate::status::ChunkStatus;
-use crate::trailers::sent_trailers;
+use crate::sum::RunningSum;
+use crate::trailers::{announced_trailers, sent_checksum};
 use aws_chunked::AwsChunkedBodyOptions;
-use awsign_run::{Chosen, printed_request, signed_request};
+use awsign_run::{Chosen, SignedRequest, printed_request, signed_request};
 use awsign_words::Asked;
 use job_text::ChunkSize;
 use sigv4::parts::test_headers;
 use smithy_core::{Env, Headers, Mem, Moment};
 use std::alloc::Global;
 
-/// A request and its body, as they are sent.
+/// A request that is signed, and a body that is to be made behind it.
 #[derive(Drop)]
 pub struct ChunkedUpload {
     /// The signed request, in the form that is asked for.
     pub head: Vec<u8>,
-    /// The data and the trailers in chunks.
-    pub body: Vec<u8>,
+    /// What the request announces of its body.
+    pub plan: BodyPlan,
+    /// What goes on from chunk to chunk, before the first one.
+    pub running: Running,
+}
+
+/// What a request announces of its body.
+#[derive(Drop)]
+pub struct BodyPlan {
+    /// How many bytes the data has.
+    pub length: u64,
+    /// How the body is encoded.
+    pub options: AwsChunkedBodyOptions,
+    /// Whether its chunks are signed.
+    pub is_signed: bool,
+    /// The trailers before that of the checksum.
+    pub trailers: Headers,
+}
+
+/// What goes on from chunk to chunk.
+#[derive(Drop)]
+pub struct Running {
+    /// Signs over the last signature.
+    pub signer: ChunkSigner,
+    /// The checksum of the data so far.
+    pub sum: RunningSum,
 }
 
 /// The words with headers that announce a body, what is signed in place of the body, and how it is encoded.
@@ -33,20 +57,19 @@ pub(crate) struct Announced<'a> {
     options: AwsChunkedBodyOptions,
 }
 
-/// The upload of data that somebody signs at a moment.
+/// The upload of so many bytes that somebody signs at a moment.
 pub(crate) fn upload_for(
     alloc: Global,
     asked: &Asked<'_>,
     signer: Chosen,
-    content: Vec<u8>,
+    length: u64,
     at: Moment,
 ) -> Result<ChunkedUpload, ChunkStatus>
-    requires { length content.items ≤ 4294967295 }
-    ensures { MakesSent (sign_wanted asked.now) content.items (sent_trailers (sign_wanted asked.now) content.items) (signs_for_of signer) at result }
+    ensures { MakesSent (sign_wanted asked.now) length (signs_for_of signer) at result }
 {
-    let trailers = sent_trailers(alloc, asked, content.as_slice())?;
-    match announce(alloc, asked, content.len(), &trailers) {
-        Ok(announced) => sign_upload(alloc, announced, signer, content, trailers, at),
+    let trailers = announced_trailers(alloc, asked)?;
+    match announce(alloc, asked, length, &trailers) {
+        Ok(announced) => sign_upload(alloc, announced, signer, length, at),
         Err(status) => Err(status),
     }
 }
@@ -55,7 +78,7 @@ pub(crate) fn upload_for(
 fn announce<'a>(
     alloc: Global,
     asked: &Asked<'a>,
-    length: usize,
+    length: u64,
     trailers: &Headers,
 ) -> Result<Announced<'a>, ChunkStatus>
     ensures { AnnouncesBody (sign_wanted asked.now) length trailers.now result }
@@ -79,14 +102,21 @@ fn announce<'a>(
 fn sent_options(
     alloc: Global,
     options: &Env,
-    length: usize,
+    length: u64,
     trailers: &Headers,
 ) -> Mem<AwsChunkedBodyOptions>
     ensures { IfOk result (λ made. made ≡ sent_options options.now length trailers.now) }
 {
-    let is_signed = options.get("--signed").is_some();
-    let made = AwsChunkedBodyOptions::for_body(alloc, length as u64, trailers, is_signed)?;
+    let is_signed = signs_chunks(options);
+    let made = AwsChunkedBodyOptions::for_body(alloc, length, trailers, is_signed)?;
     Ok(made.with_chunk_size(sent_size(options)))
+}
+
+// Whether chunks are signed.
+fn signs_chunks(options: &Env) -> bool
+    ensures { result ≡ signs_chunks options.now }
+{
+    options.get("--signed").is_some()
 }
 
 // How many bytes a chunk has.
@@ -120,14 +150,11 @@ fn sign_upload(
     alloc: Global,
     announced: Announced<'_>,
     signer: Chosen,
-    content: Vec<u8>,
-    trailers: Headers,
+    length: u64,
     at: Moment,
 ) -> Result<ChunkedUpload, ChunkStatus>
-    requires short { length content.items ≤ 4294967295 }
-    requires announced { (wanted : SignWanted) × IsAnnouncedAs wanted (length content.items) trailers announced }
-    ensures { (wanted : SignWanted) → IsAnnouncedAs wanted (length content.items) trailers announced.entry
-        → MakesSent wanted content.items trailers (signs_for_of signer) at result }
+    ensures { (wanted : SignWanted) → IsAnnouncedAs wanted length (announced_trailers wanted) announced.entry
+        → MakesSent wanted length (signs_for_of signer) at result }
 {
     let copy = signer.try_clone()?;
     let Announced {
@@ -136,39 +163,37 @@ fn sign_upload(
         options,
     } = announced;
     match signed_request(alloc, &asked, signer, payload, at) {
-        Ok(signed) => {
-            let head = printed_request(alloc, &asked, &signed, asked.options.get("--out"))?;
-            let body = body_behind(
-                alloc,
-                signed.signature,
-                copy,
-                options,
-                content,
-                trailers,
-                at,
-            )?;
-            Ok(ChunkedUpload { head, body })
-        }
+        Ok(signed) => Ok(upload_behind(alloc, asked, signed, options, copy, length, at)?),
         Err(fault) => Err(ChunkStatus::from(fault)),
     }
 }
 
-// The body behind a request of this signature.
-fn body_behind(
+// The upload behind a signed request.
+fn upload_behind(
     alloc: Global,
-    signature: String,
-    signer: Chosen,
+    asked: Asked<'_>,
+    signed: SignedRequest,
     options: AwsChunkedBodyOptions,
-    content: Vec<u8>,
-    trailers: Headers,
+    signer: Chosen,
+    length: u64,
     at: Moment,
-) -> Mem<Vec<u8>>
-    requires declared { IsDeclared options content.items trailers }
-    requires years { IsTrue (is_in_years at) }
-    ensures { IfOk result (λ text. text.items
-        ≡ sent_body options.is_signed (chunks_signer (signs_for_of signer)) at (string_bytes signature) options.chunk_size content.items trailers) }
+) -> Mem<ChunkedUpload>
+    ensures { IfOk result (IsUploadBehind (sign_wanted asked.entry) signed options (signs_for_of signer) length at) }
 {
-    let signer = chunk_signer(alloc, signer, signature, at)?;
-    let body = body_of(alloc, content, trailers, options, signer)?;
-    all_text(alloc, body)
+    let head = printed_request(alloc, &asked, &signed, asked.options.get("--out"))?;
+    let is_signed = signs_chunks(&asked.options);
+    let sum = RunningSum::new(sent_checksum(&asked.options));
+    let signer = chunk_signer(alloc, signer, signed.signature, at)?;
+    let plan = BodyPlan {
+        length,
+        options,
+        is_signed,
+        trailers: asked.trailers,
+    };
+    let running = Running { signer, sum };
+    Ok(ChunkedUpload {
+        head,
+        plan,
+        running,
+    })
 }

@@ -4,7 +4,7 @@ ghost use Rattle.std.specs.Prelude.{◌≡◌};
 use aws_chunked::AnnounceFault;
 use awsign_run::{Fault, Status};
 use sigv4::SigningError;
-use smithy_core::ReadFault;
+use smithy_core::{ReadFault, SinkError};
 use std::alloc::AllocError;
 
 /// How a run ended.
@@ -16,8 +16,10 @@ pub enum ChunkStatus {
     UnfitTrailer(SigningError),
     /// The body can't be announced.
     Unannounced(AnnounceFault),
-    /// The data has over 4,294,967,295 bytes.
+    /// Data that has to be held has over 4,294,967,295 bytes.
     DataTooLong,
+    /// The data has another length than was announced; the file holds a prefix of the body.
+    DataChanged,
     /// The file of the body failed; it holds a prefix of the body.
     FileFault,
 }
@@ -32,7 +34,7 @@ impl ChunkStatus {
         match self {
             ChunkStatus::Ended(status) => status.code(),
             ChunkStatus::UnfitTrailer(_) | ChunkStatus::Unannounced(_) => 1,
-            ChunkStatus::DataTooLong | ChunkStatus::FileFault => 3,
+            ChunkStatus::DataTooLong | ChunkStatus::DataChanged | ChunkStatus::FileFault => 3,
         }
     }
 }
@@ -59,6 +61,20 @@ impl From<ReadFault> for ChunkStatus {
             ReadFault::Failed => ChunkStatus::Ended(Status::DataFault),
             ReadFault::TooLarge => ChunkStatus::DataTooLong,
             ReadFault::NoMemory => ChunkStatus::Ended(Status::NoMemory),
+        }
+    }
+}
+
+impl From<SinkError> for ChunkStatus {
+    ghost use Rattle.std.specs.Prelude.{◌≡◌};
+    ghost use Rattle.awsign_chunk.specs.ChunkRun.{unwritten_status};
+
+    ghost from_gives = { λ fault status. status ≡ unwritten_status fault };
+
+    fn from(fault: SinkError) -> ChunkStatus {
+        match fault {
+            SinkError::Failed => ChunkStatus::FileFault,
+            SinkError::NoMemory => ChunkStatus::Ended(Status::NoMemory),
         }
     }
 }

@@ -7,7 +7,7 @@ use Rattle.awsign_chunk.proofs.ChunkRunLemmas.{files_lack}
 use Rattle.awsign_chunk.proofs.run.make_upload.Goals as goal
 
 pub returns-in-Ok-clause-headline : goal.returns-in-Ok-clause-headline
-returns-in-Ok-clause-headline g c = inl (map file_of c.in-Ok.source.files.items, c.in-Ok.ensures.loads.0, c.upload_by_files.ensures.makes)
+returns-in-Ok-clause-headline g c = inl (map file_of c.in-Ok.source.files.items, c.in-Ok.ensures.loads.0, c.upload_by_files.ensures)
 
 pub returns-in-Err-clause-headline : goal.returns-in-Err-clause-headline
 returns-in-Err-clause-headline g c =
