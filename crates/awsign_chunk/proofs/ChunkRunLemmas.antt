@@ -24,7 +24,7 @@ use Rattle.awsign_run.specs.declared.status.Status.TheVariants.{Done, BadWord, C
 use Rattle.awsign_words.specs.Words.{SignWanted}
 use Rattle.awsign_chunk.specs.ChunkRun.{IsDataStatus, IsFileStatus, SendsUpload, WritesSent, most_data, unread_status}
 use Rattle.awsign_chunk.specs.Sending.{CutsShort, SendsBody}
-use Rattle.awsign_chunk.specs.Sent.{IsUploadOf, chunks_signer, sent_body, sent_checksum, sent_head, sent_size, sent_trailers, signs_chunks, upload_case}
+use Rattle.awsign_chunk.specs.Sent.{IsUploadOf, chunks_signer, sent_body, sent_checksum, sent_head, sent_size, sent_trailers, signs_chunks, length_case}
 use Rattle.awsign_chunk.specs.declared.sent.ChunkedUpload.{ChunkedUpload}
 use Rattle.awsign_chunk.specs.declared.status.ChunkStatus.{ChunkStatus}
 use Rattle.awsign_chunk.specs.declared.status.ChunkStatus.TheVariants.{DataChanged, DataTooLong, Ended, FileFault, Unannounced, UnfitTrailer}
@@ -74,7 +74,7 @@ no_head n bytes text head DataTooLong body body_now out cut = absurd cut.0
 module _ (wanted : SignWanted) (n : ℕ) (signer : SignsFor) (at : Instant) (uri : Uri) (upload : ChunkedUpload) (is : IsUploadOf wanted n signer at uri upload) where
   -- it is signed at a moment in the years
   pub signed_then : IsTrue (is_in_years at)
-  signed_then = signed_in_years (upload_case wanted n signer at uri) is.taken
+  signed_then = signed_in_years (length_case wanted n signer at uri) is.taken
 
   -- the text of the body of these bytes, and the head, by the request that is signed
   body_text : List ℕ → Case → List ℕ
@@ -86,12 +86,12 @@ module _ (wanted : SignWanted) (n : ℕ) (signer : SignsFor) (at : Instant) (uri
     BodySent : Result (Unit {0}) ChunkStatus → Type 0
     BodySent result =
         SendsBody (signs_chunks wanted.options) (chunks_signer signer) at (sent_size wanted.options) n (sent_checksum wanted.options)
-        (signature_of (upload_case wanted n signer at uri)) wanted.trailers left body body_now result
+        (signature_of (length_case wanted n signer at uri)) wanted.trailers left body body_now result
 
     -- what was written of the body, by what was made of the words
     PlanSent : Bool → ℕ → ℕ → List Trailer → Result (Unit {0}) ChunkStatus → Type 0
     PlanSent is_signed size long trailers result =
-        SendsBody is_signed (chunks_signer signer) at size long (sent_checksum wanted.options) (signature_of (upload_case wanted n signer at uri)) trailers left body body_now result
+        SendsBody is_signed (chunks_signer signer) at size long (sent_checksum wanted.options) (signature_of (length_case wanted n signer at uri)) trailers left body body_now result
 
     by_words : (result : Result (Unit {0}) ChunkStatus)
         → PlanSent upload.plan.is_signed upload.plan.options.chunk_size upload.plan.length upload.plan.trailers result → BodySent result
@@ -104,7 +104,7 @@ module _ (wanted : SignWanted) (n : ℕ) (signer : SignsFor) (at : Instant) (uri
 
     -- the upload of these bytes, once it is known what was written
     sends_by : (bytes : List ℕ) (status : ChunkStatus) (out out_now : Option (List ℕ)) → IsAllOf left bytes
-        → WritesSent n bytes (body_text bytes (upload_case wanted n signer at uri)) (sent_head wanted (target_of uri) (upload_case wanted n signer at uri)) status
+        → WritesSent n bytes (body_text bytes (length_case wanted n signer at uri)) (sent_head wanted (target_of uri) (length_case wanted n signer at uri)) status
         body body_now out out_now
         → SendsUpload wanted n signer at uri left status body body_now out out_now
     unfolding body_text
@@ -122,7 +122,7 @@ module _ (wanted : SignWanted) (n : ℕ) (signer : SignsFor) (at : Instant) (uri
     -- the body and the head were written
     pub sends_whole : (status : Status) (out out_now : Option (List ℕ))
         → SendsBody upload.plan.is_signed (chunks_signer signer) at upload.plan.options.chunk_size upload.plan.length (sent_checksum wanted.options)
-        (signature_of (upload_case wanted n signer at uri)) upload.plan.trailers left body body_now (Ok tt)
+        (signature_of (length_case wanted n signer at uri)) upload.plan.trailers left body body_now (Ok tt)
         → HasWritten upload.head.items status out out_now → SendsUpload wanted n signer at uri left (Ended status) body body_now out out_now
     unfolding BodySent PlanSent body_text
     sends_whole status out out_now sends wrote =
@@ -133,7 +133,7 @@ module _ (wanted : SignWanted) (n : ℕ) (signer : SignsFor) (at : Instant) (uri
     -- the body was cut short
     pub sends_part : (status : ChunkStatus) (out : Option (List ℕ))
         → SendsBody upload.plan.is_signed (chunks_signer signer) at upload.plan.options.chunk_size upload.plan.length (sent_checksum wanted.options)
-        (signature_of (upload_case wanted n signer at uri)) upload.plan.trailers left body body_now (Err status)
+        (signature_of (length_case wanted n signer at uri)) upload.plan.trailers left body body_now (Err status)
         → SendsUpload wanted n signer at uri left status body body_now out out
     unfolding BodySent PlanSent body_text
     sends_part status out sends =

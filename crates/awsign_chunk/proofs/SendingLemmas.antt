@@ -16,7 +16,7 @@ use Rattle.aws_chunked.specs.Due.{signed_chunked_text, signed_chunks}
 use Rattle.aws_chunked.specs.Text.{chunk, chunk_text, chunked_text, crlf, cut_within, head_text, last_line, parts_text, pieces_of_size, tail, tail_text, trailer_line}
 use Rattle.awsign_run.specs.declared.status.Status.TheVariants.{DataFault, NoMemory}
 use Rattle.awsign_words.specs.declared.words.Checksum.{Checksum}
-use Rattle.awsign_chunk.specs.Sending.{CutsShort, GoesOn, HasCome, HasSentAll, IsCutShort, IsReadStatus, IsWriteStatus, MayFollow, SendsBody, SendsData, WritesPiece, behind, last_mark, mark_of, text_from}
+use Rattle.awsign_chunk.specs.Sending.{CutsShort, HasWrittenPiece, HasCome, HasSentAll, IsCutShort, IsReadStatus, IsWriteStatus, MayFollow, SendsBody, SendsData, WritesPiece, behind, last_mark, mark_of, text_from}
 use Rattle.awsign_chunk.specs.Sent.{checksum_trailers}
 use Rattle.awsign_chunk.specs.Sum.{HoldsSum}
 use Rattle.awsign_chunk.specs.declared.status.ChunkStatus.{ChunkStatus}
@@ -175,7 +175,7 @@ module _ (is_signed : Bool) (who : Signer) (t : Instant) (size : ℕ) where
   -- a chunk was written
   piece_goes_on : (before piece text : List ℕ) (told : ChunkTold) (held now : Option (List ℕ)) → 0 < size → 0 < length piece → length piece ≤ size
       → text ≡ chunk_text (mark_of is_signed piece who t before) piece → told ≡ signs_over (behind is_signed piece who t before) who t → Gains held now text
-      → GoesOn is_signed who t size before piece told held now
+      → HasWrittenPiece is_signed who t size before piece told held now
   piece_goes_on before piece text told held now some full within is over gained = record {
     after = behind is_signed piece who t before;
     text = chunk_text (mark_of is_signed piece who t before) piece;
@@ -186,7 +186,7 @@ module _ (is_signed : Bool) (who : Signer) (t : Instant) (size : ℕ) where
 
   -- there was no data for a chunk
   pub nothing_goes_on : (before piece : List ℕ) (told : ChunkTold) (held : Option (List ℕ)) → piece ≡ [] → told ≡ signs_over before who t
-      → GoesOn is_signed who t size before piece told held held
+      → HasWrittenPiece is_signed who t size before piece told held held
   nothing_goes_on before piece told held none over = record {
     after = before;
     text = [];
@@ -249,7 +249,7 @@ module _ (is_signed : Bool) (who : Signer) (t : Instant) (size : ℕ) where
       pub come_on : (left : Option (List ℕ)) (piece : List ℕ) (more : Bool) (to_come_now : ℕ) (told_now : ChunkTold) (sum_now : RunningSum) (now : Option (List ℕ))
           → IsCutOf mid piece left → (more ≡ true → length piece ≡ size) → (more ≡ false → IsAtEnd left) → to_come_now + length piece ≡ to_come
           → ((taken : List ℕ) → HoldsSum sum checksum taken → HoldsSum sum_now checksum (taken ++ piece))
-          → ((from : List ℕ) → told ≡ signs_over from who t → GoesOn is_signed who t size from piece told_now so_far now)
+          → ((from : List ℕ) → told ≡ signs_over from who t → HasWrittenPiece is_signed who t size from piece told_now so_far now)
           → HasCome is_signed who t size n checksum first before left more to_come_now told_now sum_now held now
       come_on left piece more to_come_now told_now sum_now now cut whole ended count holds goes =
           let on = goes come.last come.signer in

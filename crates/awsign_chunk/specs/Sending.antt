@@ -65,7 +65,7 @@ module _ (is_signed : Bool) (who : Signer) (t : Instant) (size : ℕ) where
   text_from before bytes trailers = sent_body is_signed who t before size bytes trailers
 
   -- a piece of data was written: what was gained, and then the text of what may follow, from the signature on that the signer holds now, is the text of both
-  pub record GoesOn (before piece : List ℕ) (told : ChunkTold) (held now : Option (List ℕ)) : Type 0 where
+  pub record HasWrittenPiece (before piece : List ℕ) (told : ChunkTold) (held now : Option (List ℕ)) : Type 0 where
     pub after : List ℕ
     pub text : List ℕ
     pub signer : told ≡ signs_over after who t
@@ -74,7 +74,7 @@ module _ (is_signed : Bool) (who : Signer) (t : Instant) (size : ℕ) where
 
   -- a piece of data was written; or a part of its text, since the file failed or memory ran out
   abbrev pub WritesPiece : List ℕ → List ℕ → ChunkTold → Option (List ℕ) → Option (List ℕ) → Result (Unit {0}) ChunkStatus → Type 0
-  WritesPiece before piece told held now (Ok _) = GoesOn before piece told held now
+  WritesPiece before piece told held now (Ok _) = HasWrittenPiece before piece told held now
   WritesPiece before piece told held now (Err status) =
       IsWriteStatus status
       × ((rest : List ℕ) (trailers : List Trailer) → MayFollow size piece rest → GainsProperPrefix held now (text_from before (piece ++ rest) trailers))
@@ -119,11 +119,11 @@ module _ (is_signed : Bool) (who : Signer) (t : Instant) (size : ℕ) where
     SendsData left told sum held now (Err status) = IsCutShort left held now status
 
     -- the body of these bytes was written; or a part of it for a reason
-    abbrev pub EndsBody : List ℕ → List ℕ → Option (List ℕ) → Option (List ℕ) → Result (Unit {0}) ChunkStatus → Type 0
-    EndsBody bytes text held now (Ok _) = (length bytes ≡ n) × Gains held now text
-    EndsBody bytes text held now (Err status) = CutsShort n bytes status × GainsProperPrefix held now text
+    abbrev pub WritesAllOf : List ℕ → List ℕ → Option (List ℕ) → Option (List ℕ) → Result (Unit {0}) ChunkStatus → Type 0
+    WritesAllOf bytes text held now (Ok _) = (length bytes ≡ n) × Gains held now text
+    WritesAllOf bytes text held now (Err status) = CutsShort n bytes status × GainsProperPrefix held now text
 
     -- the same of all data that a source had left, with these trailers and that of the checksum behind it
     abbrev pub SendsBody : List Trailer → Option (List ℕ) → Option (List ℕ) → Option (List ℕ) → Result (Unit {0}) ChunkStatus → Type 0
     SendsBody trailers left held now result =
-        (bytes : List ℕ) × IsAllOf left bytes × EndsBody bytes (text_from first bytes (trailers ++ checksum_trailers checksum bytes)) held now result
+        (bytes : List ℕ) × IsAllOf left bytes × WritesAllOf bytes (text_from first bytes (trailers ++ checksum_trailers checksum bytes)) held now result

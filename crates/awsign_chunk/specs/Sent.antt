@@ -104,21 +104,21 @@ sent_body false who at before size bytes trailers = chunked_text size bytes trai
 abbrev pub IsFitToSend : SignWanted → ℕ → List Trailer → Type 0
 IsFitToSend wanted n trailers = (unfit_headers 1 trailers ≡ None) × (unannounced (sent_options wanted.options n trailers) trailers ≡ None)
 
--- the request of an upload of so many bytes, for what the URL spells
-abbrev pub upload_case : SignWanted → ℕ → SignsFor → Instant → Uri → Case
-upload_case wanted n signer at uri = sent_case wanted n (announced_trailers wanted) signer at (target_of uri)
+-- the request of an upload of so many bytes, whatever they are, for what the URL spells
+abbrev pub length_case : SignWanted → ℕ → SignsFor → Instant → Uri → Case
+length_case wanted n signer at uri = sent_case wanted n (announced_trailers wanted) signer at (target_of uri)
 
 -- this is the upload of so many bytes, for what the URL spells: its head is signed, and its body is to go on from that signature
 pub record IsUploadOf (wanted : SignWanted) (n : ℕ) (signer : SignsFor) (at : Instant) (uri : Uri) (upload : ChunkedUpload) : Type 0 where
   pub spelled : SpellsTarget wanted.url uri
   pub fit : IsFitToSend wanted n (announced_trailers wanted)
-  pub taken : asked_refusal (upload_case wanted n signer at uri) ≡ None
-  pub head : upload.head.items ≡ sent_head wanted (target_of uri) (upload_case wanted n signer at uri)
+  pub taken : asked_refusal (length_case wanted n signer at uri) ≡ None
+  pub head : upload.head.items ≡ sent_head wanted (target_of uri) (length_case wanted n signer at uri)
   pub long : upload.plan.length ≡ n
   pub options : upload.plan.options ≡ sent_options wanted.options n (announced_trailers wanted)
   pub is_signed : upload.plan.is_signed ≡ signs_chunks wanted.options
   pub trailers : upload.plan.trailers ≡ wanted.trailers
-  pub over : chunk_told upload.running.signer ≡ signs_over (signature_of (upload_case wanted n signer at uri)) (chunks_signer signer) at
+  pub over : chunk_told upload.running.signer ≡ signs_over (signature_of (length_case wanted n signer at uri)) (chunks_signer signer) at
   pub sum : HoldsSum upload.running.sum (sent_checksum wanted.options) []
 
 -- the upload of so many bytes by somebody at a moment; or the first reason why there is none: a trailer, the announcement, or the request; or memory ran out

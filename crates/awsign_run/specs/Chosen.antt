@@ -44,7 +44,7 @@ pub data SignRefusal : Type 0 where
   -- memory ran out
   out_of_memory : SignRefusal
 
--- what contracts see of a fault
+-- why nothing is signed, as contracts see a fault
 abbrev pub refusal_of : Fault → SignRefusal
 refusal_of (Profile error) = lacking (faulty (faulty_line_of error))
 refusal_of (MissingKey profile files) = missing_key (string_bytes profile) (string_bytes files)
