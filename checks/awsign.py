@@ -152,7 +152,7 @@ class Listener(http.server.BaseHTTPRequestHandler):
         path = self.path.partition("?")[0]
         body, status = b"", 403
         if good and self.command == "PUT":
-            objects[path], status = bytes(kept) if length < 1 << 23 else digest.hexdigest(), 200
+            objects[path], status = bytes(kept) if length < 1 << 23 else digest.hexdigest().encode(), 200
         elif good and self.command == "DELETE":
             status = 204 if objects.pop(path, None) is not None else 404
         elif good and self.command in ("GET", "HEAD"):

@@ -1,6 +1,6 @@
 mod AnnouncementLemmas
 mod BodyLemmas
-mod CutLemmas
+pub mod CutLemmas
 mod DigitLemmas
 pub mod DueLemmas
 mod FillLemmas

@@ -1,5 +1,5 @@
 -- A body that is written chunk by chunk.
-use Rattle.std.proofs.Common.{◌≡◌, ◌⊎◌, ◌<◌, ◌≤◌, ◌+◌, ℕ, zero, suc, Bool, true, false, inl, inr, List, [], ◌∷◌, ◌++◌, length, map, take, drop, Option, Some, None, Ok, Err, refl, sym, ap, subst, ◌∙◌, append_assoc, append-nil, length-append, length-drop, arith}
+use Rattle.std.proofs.Common.{◌≡◌, ◌⊎◌, ◌<◌, ◌≤◌, ◌+◌, ℕ, Bool, true, false, inl, inr, List, [], ◌∷◌, ◌++◌, length, map, take, drop, Option, Some, None, Ok, Err, refl, sym, ap, subst, ◌∙◌, append_assoc, append-nil, length-append, arith}
 use Rattle.std.proofs.lemmas.Bool.{cases_lt}
 use Rattle.std.proofs.lemmas.List.{drop_all, take_all}
 use Rattle.std.proofs.Math.Seq.{drop-append_seam, take-append_seam}
@@ -13,7 +13,8 @@ use Rattle.eventstream.specs.Key.{Signer}
 use Rattle.sigv4.specs.ChunkTold.{ChunkTold, signs_over}
 use Rattle.aws_chunked.specs.Body.{Trailer}
 use Rattle.aws_chunked.specs.Due.{signed_chunked_text, signed_chunks}
-use Rattle.aws_chunked.specs.Text.{chunk, chunk_text, chunked_text, crlf, cut_within, head_text, last_line, parts_text, pieces_of_size, tail, tail_text, trailer_line}
+use Rattle.aws_chunked.specs.Text.{chunk, chunk_text, chunked_text, crlf, head_text, last_line, parts_text, pieces_of_size, tail, tail_text, trailer_line}
+use Rattle.aws_chunked.proofs.CutLemmas.{cut_first, cut_none}
 use Rattle.awsign_run.specs.declared.status.Status.TheVariants.{DataFault, NoMemory}
 use Rattle.awsign_words.specs.declared.words.Checksum.{Checksum}
 use Rattle.awsign_chunk.specs.Sending.{CutsShort, HasWrittenPiece, HasCome, HasSentAll, IsCutShort, IsReadStatus, IsWriteStatus, MayFollow, SendsBody, SendsData, WritesPiece, behind, last_mark, mark_of, text_from}
@@ -50,31 +51,6 @@ gains_both : (held mid now : Option (List ℕ)) (front rest : List ℕ) → Gain
 gains_both held mid now front rest first second = gains_last held mid now rest (front ++ rest) (gains_front held mid front rest first) second
 
 -- ## Cuts of data
-
--- nothing has no pieces
-cut_none : (size : ℕ) → pieces_of_size size [] ≡ []
-unfolding pieces_of_size cut_within
-cut_none size = refl
-
--- a greater bound changes nothing
-cut_enough : (k m size : ℕ) (bytes : List ℕ) → 0 < size → length bytes ≤ k → length bytes ≤ m → cut_within k size bytes ≡ cut_within m size bytes
-unfolding cut_within
-cut_enough k m size [] some low high = refl
-cut_enough zero m size (byte ∷ bytes) some low high = absurd (omega (arith, low))
-cut_enough (suc k) zero size (byte ∷ bytes) some low high = absurd (omega (arith, high))
-cut_enough (suc k) (suc m) size (byte ∷ bytes) some low high =
-    let rest = drop size (byte ∷ bytes) in
-    let shorter : length rest ≤ length bytes = omega (arith, some, length-drop size (byte ∷ bytes)) in
-    ap (λ pieces. take size (byte ∷ bytes) ∷ pieces) (cut_enough k m size rest some (omega (arith, low, shorter)) (omega (arith, high, shorter)))
-
--- the first piece, and the others
-cut_first : (size : ℕ) (bytes : List ℕ) → 0 < size → 0 < length bytes → pieces_of_size size bytes ≡ take size bytes ∷ pieces_of_size size (drop size bytes)
-unfolding pieces_of_size cut_within
-cut_first size [] some full = absurd (omega (arith, full))
-cut_first size (byte ∷ bytes) some full =
-    let rest = drop size (byte ∷ bytes) in
-    let shorter : length rest ≤ length bytes = omega (arith, some, length-drop size (byte ∷ bytes)) in
-    ap (λ pieces. take size (byte ∷ bytes) ∷ pieces) (cut_enough (length bytes) (length rest) size rest some shorter (omega arith))
 
 -- a piece of the data
 cut_piece : (size : ℕ) (piece rest : List ℕ) → 0 < size → 0 < length piece → length piece ≤ size → MayFollow size piece rest
