@@ -296,17 +296,20 @@ def calls_fail_from_then_on(program, told):
 
 
 def files_change(program):
-    """A named file grows, shrinks or vanishes before one of its reads: what is read is the file before or after that."""
+    """A named file grows, shrinks or vanishes before one of its reads: what is read is the file before or after that, or, where its
+    length was announced, it may be said that the data changed."""
     for path in program.run.files() + program.run.named("--data"):
         content = stored(path)
         for how, other in (("grow", content + b"region = grown\n"), ("shrink", b""), ("vanish", content)):
             with open(path, "wb") as file:
                 file.write(other)
-            wanted = program.end()
+            wanted = [program.whole, program.end()]
+            if program.run.argv()[0] == "chunk" and path in program.run.named("--data"):
+                wanted.append(runs.DATA_CHANGED)
             for number in (1, 2, 3):
                 with open(path, "wb") as file:
                     file.write(content)
-                expect(f"{program.name}: {path} does {how} before its read {number}", program.end(f"read {number} {how} {path} {path}"), program.whole, wanted)
+                expect(f"{program.name}: {path} does {how} before its read {number}", program.end(f"read {number} {how} {path} {path}"), *wanted)
             with open(path, "wb") as file:
                 file.write(content)
         if program.reads_first:
@@ -464,7 +467,10 @@ def no_files(program):
     """How a run ends that can open no file: at its data, its first named one, or as without the default ones."""
     for path in program.run.named("--data") + program.run.files():
         return of_file(program, path)
-    return program.over(env={**program.run.env(), "HOME": "none"})
+    env = program.run.env()
+    ended = program.over(env={**env, "HOME": "none"})
+    # What is said names the files that were looked at.
+    return ended._replace(err=ended.err.replace(b"none/", env["HOME"].encode() + b"/"))
 
 
 def with_pipe(program, path):

@@ -62,6 +62,8 @@ def data_fault(path):
     return said_by_awsign(f"could not read the file that --data names: {path}")
 
 
+# How `awsign chunk` ends where the data ends elsewhere than its length said.
+DATA_CHANGED = said_by_awsign("the data changed while it was read")
 OUTPUT_FAULT = Ended(9, b"", b"output fault\n")
 STREAMS = Said(Ended(10, b"", b"no memory\n"), Ended(5, b"", b"read fault\n"), OUTPUT_FAULT, OUTPUT_FAULT, "could not read file {}\n")
 AWSIGN = Said(

@@ -244,7 +244,7 @@ tool 'a header of 65536 bytes' 1 "${unsigned}invalid name of header 1" 0 $few no
 tool 'an expiry of 604800 seconds' 0 '' $((11 + added + 5)) $few nothing presign GET https://h/ $links 604800
 tool 'an expiry of 604801 seconds' 1 'awsign: the URL would be good for over 604800 seconds, which AWS refuses; --long makes it all the same' 0 $few nothing presign GET https://h/ $links 604801
 tool 'an expiry of 64 bits for awsign' 0 '' $((11 + added + 19)) $few nothing presign GET https://h/ --long $links 18446744073709551615
-tool 'an expiry over 64 bits for awsign' 2 "awsign: word 10 isn't understood here: 18446744073709551616; awsign --help lists the words" 0 $few nothing presign GET https://h/ --long $links 18446744073709551616
+tool 'an expiry over 64 bits for awsign' 2 "awsign: word 10 isn't understood here: 18446744073709551616; awsign COMMAND --help lists the words" 0 $few nothing presign GET https://h/ --long $links 18446744073709551616
 tool 'the last second for awsign' 0 '' 11 $few nothing $asked 253402300799 --as url
 tool 'the second after the last for awsign' 1 "${unsigned}moment 253402300800 is outside the years 0 to 9999" 0 $few nothing $asked 253402300800
 # Data is hashed piece by piece: a file of 256 MiB takes no more memory than one of a byte.
@@ -256,7 +256,7 @@ make data "bytes($file)"
 upload='chunk PUT https://h/ --service a --at 0 --as url --out chunked'
 tool 'data of 16777216 bytes in chunks' 0 '' 11 $((4 * file / kilo)) nothing $upload --data data --signed
 tool 'data of 16777216 bytes in one chunk' 0 '' 11 $((4 * file / kilo)) nothing $upload --data data --size 67108864
-tool 'a chunk size of 67108865 for awsign' 2 "awsign: word 13 isn't understood here: 67108865; awsign --help lists the words" 0 $few nothing $upload --size 67108865
+tool 'a chunk size of 67108865 for awsign' 2 "awsign: word 13 isn't understood here: 67108865; awsign COMMAND --help lists the words" 0 $few nothing $upload --size 67108865
 tool 'endless data' 3 'awsign: no memory' 0 $((4 * file / kilo)) nothing $upload --data /dev/zero
 # A request of 67,108,864 bytes, head and body, one more, and one of many headers.
 env -i "$crates/awsign/out/awsign" sign PUT https://h/ --s3 --at 0 --unsigned --as http --credentials keys > head

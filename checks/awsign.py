@@ -239,6 +239,9 @@ def manners(at):
         says(f"good for {time!r}", f'awsign presign GET {at}/b/k --s3 --expires "$TIME"', 2, "", f"awsign: word 6 isn't understood here: {time};", TIME=time)
     for time in ("604801", "8d", "169h"):
         says(f"good for {time}", f"awsign presign GET {at}/b/k --s3 --expires {time}", 1, "", "over 604800 seconds")
+    for name in ("X-Amz-Signature", "X%2DAmz-Signature"):
+        says(f"presigned already, {name}", f"awsign presign GET '{at}/b/k?a=b&{name}=c' --s3 --expires 10m", 1, "", "awsign: the URL is presigned already")
+    says("signed in headers too", f"awsign sign GET '{at}/b/k?X-Amz-Signature=c' --s3", 0, "authorization")
     says("good for long", f"awsign presign GET {at}/b/k --s3 --expires 8d --long", 0, "&X-Amz-Expires=691200&")
     says("good for the most", f"awsign presign GET {at}/b/k --s3 --expires 213503982334601d --long", 0, "&X-Amz-Expires=18446744073709526400&")
     for key in ("odd key+ü", "a%20b", "a#b", "a//../b", " \"<>\\^`{|}", "(a)!$&'*,;=:@~[]", "日本/€.txt"):

@@ -20,6 +20,7 @@ mod watched;
 
 pub use crate::events::SignedEvents;
 pub use crate::fault::{AwsSigningError, Result};
+pub use crate::presigning::is_presigned;
 pub use crate::received_events::{ReceivedEvents, ReceivedMessages, received};
 pub use crate::service::Service;
 pub use crate::signer::Signer;

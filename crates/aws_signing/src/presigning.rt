@@ -93,8 +93,8 @@ fn test_seconds(seconds: u64) -> Result<(), AwsSigningError>
     Ok(())
 }
 
-// Whether a text is that of a target whose query has a signature.
-fn is_presigned(alloc: Global, text: &str) -> Mem<bool>
+/// Whether a text is that of a target whose query has a signature's parameter, `X-Amz-Signature`.
+pub fn is_presigned(alloc: Global, text: &str) -> Mem<bool>
     ensures { IfOk result (TellsPresigned text.now) }
 {
     match read_target(alloc, text) {

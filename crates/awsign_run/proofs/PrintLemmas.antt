@@ -8,7 +8,7 @@ use Rattle.smithy_http.specs.Target.{Target}
 use Rattle.sigv4.specs.Request.{Case}
 use Rattle.env_config.specs.Sections.{FileText}
 use Rattle.awsign_run.specs.Chosen.{IsFaultOf, SignRefusal, SignsFor, asked_profile, signer_by}
-use Rattle.awsign_run.specs.Signing.{IsPrinted, PrintsFor, PrintsSigned, SignsAsked, SignsPrinted, is_long}
+use Rattle.awsign_run.specs.Signing.{IsPrinted, PrintsFor, PrintsAnew, SignsAsked, SignsPrinted, is_long}
 use Rattle.awsign_words.specs.Words.{SignWanted}
 use Rattle.awsign_run.specs.Guess.{url_host}
 use Rattle.awsign_run.specs.declared.signing.SignedRequest.{SignedRequest}
@@ -27,7 +27,7 @@ signer_lacks sign_wanted planned digest at fault (inr is) = out_of_memory sign_w
 
 -- a URL that would be good for too long isn't made
 pub long_refused : (sign_wanted : SignWanted) (env : List (List ℕ × List ℕ)) (files : List FileText) (digest : Option (List ℕ)) (at : Instant) → is_long sign_wanted.options ≡ true
-    → PrintsSigned sign_wanted env files digest at (Err LongExpiry)
+    → PrintsAnew sign_wanted env files digest at (Err LongExpiry)
 long_refused sign_wanted env files digest at long = rw long (inl refl)
 
 module _ (sign_wanted : SignWanted) (env : List (List ℕ × List ℕ)) (files : List FileText) (digest : Option (List ℕ)) (at : Instant) (short : is_long sign_wanted.options ≡ false) where
@@ -35,11 +35,11 @@ module _ (sign_wanted : SignWanted) (env : List (List ℕ × List ℕ)) (files :
   signs_by = signer_by sign_wanted.options (url_host sign_wanted.url) env (asked_profile sign_wanted.options env) files
 
   -- what somebody signs is printed
-  pub by_signer : (signer : SignsFor) (result : Result (Vec ℕ) Fault) → signs_by ≡ Ok signer → PrintsFor sign_wanted (Ok signer) digest at result → PrintsSigned sign_wanted env files digest at result
+  pub by_signer : (signer : SignsFor) (result : Result (Vec ℕ) Fault) → signs_by ≡ Ok signer → PrintsFor sign_wanted (Ok signer) digest at result → PrintsAnew sign_wanted env files digest at result
   by_signer signer result is prints = rw (short, is) prints
 
   -- nothing is printed where nobody signs
-  pub nobody_prints : (fault : Fault) → IsFaultOf signs_by fault → PrintsSigned sign_wanted env files digest at (Err fault)
+  pub nobody_prints : (fault : Fault) → IsFaultOf signs_by fault → PrintsAnew sign_wanted env files digest at (Err fault)
   nobody_prints fault is = rw short (signer_lacks sign_wanted signs_by digest at fault is)
 
 -- a signed request is printed

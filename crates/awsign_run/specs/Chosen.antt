@@ -11,7 +11,7 @@ use Rattle.awsign_words.specs.Words.{OptionValues, has}
 use Rattle.awsign_run.specs.Guess.{guessed_service}
 use Rattle.awsign_run.specs.declared.chosen.Chosen.{Chosen}
 use Rattle.awsign_run.specs.declared.fault.Fault.{Fault}
-use Rattle.awsign_run.specs.declared.fault.Fault.TheVariants.{Profile, MissingKey, MissingSecret, MissingRegion, EmptyRegion, MissingService, EmptyService, LongExpiry, Signing, NoMemory}
+use Rattle.awsign_run.specs.declared.fault.Fault.TheVariants.{Profile, MissingKey, MissingSecret, MissingRegion, EmptyRegion, MissingService, EmptyService, LongExpiry, AlreadyPresigned, Signing, NoMemory}
 
 -- ## Profile files
 
@@ -39,6 +39,8 @@ pub data SignRefusal : Type 0 where
   empty_service : SignRefusal
   -- a presigned URL would be good for more than seven days
   long_expiry : SignRefusal
+  -- the URL that was to be presigned is presigned already
+  presigned_already : SignRefusal
   -- the request can't be signed
   unsigned : SigningError → SignRefusal
   -- memory ran out
@@ -54,6 +56,7 @@ refusal_of EmptyRegion = empty_region
 refusal_of MissingService = missing_service
 refusal_of EmptyService = empty_service
 refusal_of LongExpiry = long_expiry
+refusal_of AlreadyPresigned = presigned_already
 refusal_of (Signing error) = unsigned error
 refusal_of NoMemory = out_of_memory
 

@@ -6,7 +6,7 @@ use Rattle.smithy_core.specs.Text.{line}
 use Rattle.env_config.specs.declared.parse_fault.EnvConfigParseError.{EnvConfigParseError}
 use Rattle.sigv4.specs.Error.{error_text}
 use Rattle.awsign_run.specs.declared.fault.Fault.{Fault}
-use Rattle.awsign_run.specs.declared.fault.Fault.TheVariants.{Profile, MissingKey, MissingSecret, MissingRegion, EmptyRegion, MissingService, EmptyService, LongExpiry, Signing, NoMemory as FaultNoMemory}
+use Rattle.awsign_run.specs.declared.fault.Fault.TheVariants.{Profile, MissingKey, MissingSecret, MissingRegion, EmptyRegion, MissingService, EmptyService, LongExpiry, AlreadyPresigned, Signing, NoMemory as FaultNoMemory}
 use Rattle.awsign_run.specs.declared.status.Status.{Status}
 use Rattle.awsign_run.specs.declared.status.Status.TheVariants.{Done, BadWord, CouldNotReadFile, DataFault, Refused, OutputFault, NoMemory}
 
@@ -16,8 +16,8 @@ tool_line text = line (codes "awsign: " ++ text)
 
 -- a bad word is quoted; where there is none at its place one is missing
 abbrev pub word_text : ℕ → Option (List ℕ) → List ℕ
-word_text place (Some word) = codes "word " ++ (decimal place ++ (codes " isn't understood here: " ++ (word ++ codes "; awsign --help lists the words")))
-word_text place None = codes "a word is missing at the end; awsign --help lists the words"
+word_text place (Some word) = codes "word " ++ (decimal place ++ (codes " isn't understood here: " ++ (word ++ codes "; awsign COMMAND --help lists the words")))
+word_text place None = codes "a word is missing at the end; awsign COMMAND --help lists the words"
 
 -- a faulty line of a profile file
 abbrev pub faulty_text : EnvConfigParseError → List ℕ
@@ -44,6 +44,7 @@ fault_reason EmptyRegion = codes "the region is empty: give --region a name, or 
 fault_reason MissingService = codes "no service, and the host names none: say --service NAME, or --s3"
 fault_reason EmptyService = codes "the service's name is empty: give --service a name, or leave it out"
 fault_reason LongExpiry = codes "the URL would be good for over 604800 seconds, which AWS refuses; --long makes it all the same"
+fault_reason AlreadyPresigned = codes "the URL is presigned already: leave out its signature's parameters"
 fault_reason (Signing error) = codes "the request can't be signed: " ++ error_text error
 fault_reason FaultNoMemory = codes "no memory"
 

@@ -1,5 +1,5 @@
 -- What `awsign` prints of the request that words ask for.
-use Rattle.std.specs.Prelude.{◌≡◌, ◌⊎◌, ℕ, Bool, not, nat_lt, ◌&&◌, ◌||◌, if◌then◌else◌, List, [], codes, bytes_eq, Option, Some, None, unwrap_or, Result, Ok, Err, string_bytes}
+use Rattle.std.specs.Prelude.{◌≡◌, ◌⊎◌, ℕ, Bool, true, false, not, nat_lt, ◌&&◌, ◌||◌, if◌then◌else◌, List, [], codes, bytes_eq, Option, Some, None, unwrap_or, Result, Ok, Err, IsErrAnd, string_bytes}
 use Rattle.std.specs.Global.{Vec}
 use Rattle.std.specs.Option.{option_and_then, option_or}
 use Rattle.hex.specs.Hex.{encode_lower}
@@ -25,8 +25,9 @@ use Rattle.awsign_text.specs.Forms.{text_in_form}
 use Rattle.awsign_text.specs.declared.forms.Form.{Form}
 use Rattle.awsign_text.specs.declared.forms.Form.TheVariants.{Curl, Url}
 use Rattle.aws_signing.specs.KeyHolder.{held_key}
+use Rattle.aws_signing.specs.Presigning.{IsPresignedAlready}
 use Rattle.aws_signing.specs.SigningBy.{SigningState}
-use Rattle.awsign_run.specs.Chosen.{SignRefusal, SignsFor, asked_profile, long_expiry, refusal_of, signer_by, unsigned}
+use Rattle.awsign_run.specs.Chosen.{SignRefusal, SignsFor, asked_profile, long_expiry, presigned_already, refusal_of, signer_by, unsigned}
 use Rattle.awsign_run.specs.Guess.{url_host}
 use Rattle.awsign_run.specs.declared.chosen.Chosen.{Chosen}
 use Rattle.awsign_run.specs.declared.signing.SignedRequest.{SignedRequest}
@@ -126,9 +127,25 @@ asked_signer sign_wanted env files =
     if is_long sign_wanted.options then Err long_expiry
     else signer_by sign_wanted.options (url_host sign_wanted.url) env (asked_profile sign_wanted.options env) files
 
--- the text that words, variables, the texts of profile files, the digest of the data and a moment give, or why there is none
+-- the text that words, variables, the texts of profile files, the digest of the data and a moment give, whatever the URL has, or why there is none
+abbrev pub PrintsAnew : SignWanted → List (List ℕ × List ℕ) → List FileText → Option (List ℕ) → Instant → Result (Vec ℕ) Fault → Type 0
+PrintsAnew sign_wanted env files digest at result = PrintsFor sign_wanted (asked_signer sign_wanted env files) digest at result
+
+-- a URL is to be presigned that is presigned already
+abbrev pub PresignsAgain : SignWanted → Type 0
+PresignsAgain sign_wanted = (sign_wanted.presigns ≡ true) × IsPresignedAlready sign_wanted.url
+
+-- whether one is
+abbrev pub TellsAgain : SignWanted → Bool → Type 0
+TellsAgain sign_wanted true = PresignsAgain sign_wanted
+TellsAgain sign_wanted false = PresignsAgain sign_wanted → ⊥
+
+-- that text, where no URL is to be presigned that is so already; or that one is, or memory ran out
 abbrev pub PrintsSigned : SignWanted → List (List ℕ × List ℕ) → List FileText → Option (List ℕ) → Instant → Result (Vec ℕ) Fault → Type 0
-PrintsSigned sign_wanted env files digest at result = PrintsFor sign_wanted (asked_signer sign_wanted env files) digest at result
+PrintsSigned sign_wanted env files digest at result =
+    (((PresignsAgain sign_wanted → ⊥) × PrintsAnew sign_wanted env files digest at result)
+    ⊎ (PresignsAgain sign_wanted × IsErrAnd result (λ fault. refusal_of fault ≡ presigned_already)))
+    ⊎ IsErrAnd result (λ fault. fault ≡ NoMemory)
 
 -- the digest of all that a source had left
 abbrev pub DigestsAll : Option (List ℕ) → Option (List ℕ) → List ℕ → Type 0

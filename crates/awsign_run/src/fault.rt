@@ -34,6 +34,8 @@ pub enum Fault {
     EmptyService,
     /// A presigned URL would be good for more than seven days.
     LongExpiry,
+    /// The URL that was to be presigned has a parameter `X-Amz-Signature`.
+    AlreadyPresigned,
     /// The request can't be signed.
     Signing(SigningError),
     /// Memory ran out.

@@ -104,7 +104,7 @@ fn word_line(alloc: Global, place: usize, word: Option<&str>) -> Mem<String>
         Some(word) => bad_word_line(alloc, place, word),
         None => tool_line(
             alloc,
-            "a word is missing at the end; awsign --help lists the words",
+            "a word is missing at the end; awsign COMMAND --help lists the words",
         ),
     }
 }
@@ -113,7 +113,7 @@ fn bad_word_line(alloc: Global, place: usize, word: &str) -> Mem<String>
     ensures { IfOk result (λ line. string_bytes line ≡ tool_line (word_text place (Some word.now))) }
 {
     let text = format!(in alloc;
-        "word {place} isn't understood here: {word}; awsign --help lists the words"
+        "word {place} isn't understood here: {word}; awsign COMMAND --help lists the words"
     )?;
     tool_line(alloc, text.as_str())
 }
@@ -147,6 +147,10 @@ pub fn fault_line(alloc: Global, fault: &Fault) -> Mem<String>
         Fault::LongExpiry => tool_line(
             alloc,
             "the URL would be good for over 604800 seconds, which AWS refuses; --long makes it all the same",
+        ),
+        Fault::AlreadyPresigned => tool_line(
+            alloc,
+            "the URL is presigned already: leave out its signature's parameters",
         ),
         Fault::Signing(error) => unsigned_line(alloc, error),
         Fault::NoMemory => tool_line(alloc, "no memory"),

@@ -9,14 +9,14 @@ ghost use Rattle.aws_signing.specs.SigningFaults.{of_signing};
 ghost use Rattle.awsign_run.specs.Chosen.{asked_profile, signs_for_of};
 ghost use Rattle.awsign_run.specs.Faults.{signing_fault};
 ghost use Rattle.awsign_run.specs.Guess.{url_host};
-ghost use Rattle.awsign_run.specs.Signing.{IsAsked, IsPrinted, PrintsFor, PrintsSigned, SignsAsked, SignsPrinted, SignsUrl, asked_case, asked_form, asked_payload, asked_settings, chosen_signer, expiry, is_long, is_s3, default_payload, usual_settings};
+ghost use Rattle.awsign_run.specs.Signing.{IsAsked, IsPrinted, PrintsAnew, PrintsFor, PrintsSigned, SignsAsked, SignsPrinted, SignsUrl, TellsAgain, asked_case, asked_form, asked_payload, asked_settings, chosen_signer, expiry, is_long, is_s3, default_payload, usual_settings};
 ghost use Rattle.awsign_words.specs.Words.{sign_wanted};
 
 use crate::choosing::signer_for;
 use crate::chosen::Chosen;
 use crate::fault::Fault;
 use crate::guess::url_host;
-use aws_signing::{AwsSigningError, Signer};
+use aws_signing::{AwsSigningError, Signer, is_presigned};
 use awsign_text::{Form, text_of};
 use awsign_words::{Asked, expiry_named, form_named};
 use env_config::Source;
@@ -47,7 +47,7 @@ const MOST_EXPIRY: u64 = 604_800;
 ///
 /// # Errors
 ///
-/// The first of these: [`Fault::LongExpiry`]; those of [`signer_for`](crate::signer_for); and those of
+/// The first of these: [`Fault::AlreadyPresigned`]; [`Fault::LongExpiry`]; those of [`signer_for`](crate::signer_for); and those of
 /// [`signed_request`](crate::signed_request).
 pub fn signed_text(
     alloc: Global,
@@ -59,6 +59,35 @@ pub fn signed_text(
 ) -> Result<Vec<u8>, Fault>
     requires { string_bytes source.now.profile ≡ asked_profile asked.now.options env.now }
     ensures { PrintsSigned (sign_wanted asked.now) env.now (map file_of source.now.files.items) (option_copied digest.entry) at result }
+{
+    if presigns_again(alloc, asked)? {
+        return Err(Fault::AlreadyPresigned);
+    }
+    signed_anew(alloc, asked, env, source, digest, at)
+}
+
+// Whether a URL is to be presigned that is presigned already: a service would find two signatures.
+fn presigns_again(alloc: Global, asked: &Asked<'_>) -> Mem<bool>
+    ensures { IfOk result (TellsAgain (sign_wanted asked.now)) }
+{
+    if asked.presigns {
+        is_presigned(alloc, asked.url)
+    } else {
+        Ok(false)
+    }
+}
+
+// The signed request as it is printed, whatever the URL has.
+fn signed_anew(
+    alloc: Global,
+    asked: &Asked<'_>,
+    env: &Env,
+    source: &Source,
+    digest: Option<&str>,
+    at: Moment,
+) -> Result<Vec<u8>, Fault>
+    requires { string_bytes source.now.profile ≡ asked_profile asked.now.options env.now }
+    ensures { PrintsAnew (sign_wanted asked.now) env.now (map file_of source.now.files.items) (option_copied digest.entry) at result }
 {
     if is_long(&asked.options) {
         return Err(Fault::LongExpiry);

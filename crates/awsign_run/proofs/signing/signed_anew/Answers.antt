@@ -4,7 +4,7 @@ use Rattle.awsign_run.proofs.PrintLemmas.{by_signer, long_refused, nobody_prints
 use Rattle.awsign_run.specs.Chosen.{signs_for_of}
 use Rattle.awsign_run.specs.Signing.{is_long}
 use Rattle.awsign_words.specs.Words.{sign_wanted}
-use Rattle.awsign_run.proofs.signing.signed_text.Goals as goal
+use Rattle.awsign_run.proofs.signing.signed_anew.Goals as goal
 
 pub returns-then-is_long : goal.returns-then-is_long
 returns-then-is_long c =
