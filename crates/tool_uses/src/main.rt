@@ -10,6 +10,7 @@ mod first_steps;
 mod lower_crates;
 mod opened_stream;
 mod operation;
+mod own_settings;
 mod presigned_door;
 mod profile_settings;
 mod received_events;
@@ -66,6 +67,7 @@ fn uses(alloc: Global) -> anyhow::Result<String> {
     push_first(alloc, &mut text, object_moment())?;
     lower_crates::push_all(alloc, &mut text, Moment::new(1_440_938_160, 0))?;
     refusals::push_all(alloc, &mut text, example_moment())?;
+    push_put_url(alloc, &mut text)?;
     push_requests(alloc, &mut text, &example_identity(alloc)?)?;
     push_events(alloc, &mut text)?;
     push_lines(alloc, &mut text, chunked_upload::body(alloc)?.as_slice())?;
@@ -361,12 +363,24 @@ fn object_moment() -> Moment {
     Moment::new(1_369_353_600, 0)
 }
 
+// A URL by settings of one's own.
+fn push_put_url(alloc: Global, text: &mut String) -> anyhow::Result<()> {
+    let credentials = example_credentials(alloc)?;
+    let url = own_settings::put_url(alloc, &credentials, example_moment())?;
+    write!(text, "{url}\n\n")?;
+    Ok(())
+}
+
 fn example_moment() -> Moment {
     Moment::new(1_440_938_160, 0)
 }
 
 fn example_identity(alloc: Global) -> Result<Identity, AllocError> {
+    Ok(Identity::Credentials(example_credentials(alloc)?))
+}
+
+fn example_credentials(alloc: Global) -> Result<Credentials, AllocError> {
     let key_id = String::from_str(alloc, KEY_ID)?;
     let secret = String::from_str(alloc, SECRET)?;
-    Ok(Identity::Credentials(Credentials::new(key_id, secret, None, None)))
+    Ok(Credentials::new(key_id, secret, None, None))
 }
