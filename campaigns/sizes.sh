@@ -1,7 +1,7 @@
 #!/usr/bin/env bash
 # Runs the built programs at and around each limit of docs/FORMATS.md, under a hard limit of memory (`ulimit -v`, which counts what
 # is mapped) and of processor time: four times the input for a job, a record, a request or data in chunks, some copies of the largest
-# frame for `watch`, and the text's own length for a profile file, each and 20 MB for the program itself. A line for each run that
+# frame for `watch`, and the text's own length for a profile file, each and 22 MB for the program itself. A line for each run that
 # ends with another exit number, line or length of its output, and then a line of counts; the status is 1 where there was one.
 #   campaigns/sizes.sh [WORD]    the cases whose names hold WORD alone
 set -u
@@ -12,7 +12,7 @@ trap 'rm -rf "$folder"' EXIT
 cd "$folder" || exit 1
 failed=0 ran=0
 # Kilobytes that a run may map, beside what it reads, and the seconds that it may compute.
-own=20000 seconds=30
+own=22000 seconds=30
 
 # make FILE EXPRESSION: the bytes that the expression of Python gives.
 make() {
@@ -251,11 +251,11 @@ tool 'the second after the last for awsign' 1 "${unsigned}moment 253402300800 is
 truncate -s 256M sparse
 tool 'data of 256 MiB' 0 '' 11 $few nothing $asked 0 --as url --data sparse
 rm sparse
-# `chunk` keeps the data and the body; endless data ends as the memory does.
+# `chunk` keeps two chunks of a file, and data whose length isn't told: endless data ends as the memory does.
 make data "bytes($file)"
 upload='chunk PUT https://h/ --service a --at 0 --as url --out chunked'
 tool 'data of 16777216 bytes in chunks' 0 '' 11 $((4 * file / kilo)) nothing $upload --data data --signed
-tool 'data of 16777216 bytes in one chunk' 0 '' 11 $((4 * file / kilo)) nothing $upload --data data --size 67108864
+tool 'data of 16777216 bytes in one chunk' 0 '' 11 $((2 * 67108864 / kilo)) nothing $upload --data data --size 67108864
 tool 'a chunk size of 67108865 for awsign' 2 "awsign: word 13 isn't understood here: 67108865; awsign COMMAND --help lists the words" 0 $few nothing $upload --size 67108865
 tool 'endless data' 3 'awsign: no memory' 0 $((4 * file / kilo)) nothing $upload --data /dev/zero
 # A request of 67,108,864 bytes, head and body, one more, and one of many headers.
