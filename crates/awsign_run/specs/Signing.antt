@@ -1,5 +1,5 @@
 -- What `awsign` prints of the request that words ask for.
-use Rattle.std.specs.Prelude.{◌≡◌, ◌⊎◌, ℕ, Bool, true, false, not, nat_lt, ◌&&◌, ◌||◌, if◌then◌else◌, List, [], codes, bytes_eq, Option, Some, None, unwrap_or, Result, Ok, Err, IsErrAnd, string_bytes}
+use Rattle.std.specs.Prelude.{◌≡◌, ◌⊎◌, ◌≤◌, ◌-◌, ◌^◌, ℕ, Bool, true, false, not, nat_lt, ◌&&◌, ◌||◌, if◌then◌else◌, List, [], codes, length, bytes_eq, Option, Some, None, unwrap_or, Result, Ok, Err, IsErrAnd, string_bytes}
 use Rattle.std.specs.Global.{Vec}
 use Rattle.std.specs.Option.{option_and_then, option_or}
 use Rattle.hex.specs.Hex.{encode_lower}
@@ -7,7 +7,7 @@ use Rattle.sha2.specs.Sha256.{sha256}
 use Rattle.http_uri.specs.declared.uri.Uri.{Uri}
 use Rattle.smithy_core.specs.Civil.{is_in_years}
 use Rattle.smithy_core.specs.Moment.{Instant}
-use Rattle.smithy_core.specs.Outside.{IsAtEnd, IsCutOf}
+use Rattle.smithy_core.specs.Outside.{IsAtEnd, IsCutOf, RoseOrStands}
 use Rattle.smithy_core.specs.TextPairs.{last_value}
 use Rattle.smithy_core.specs.declared.request.HttpRequest.{HttpRequest}
 use Rattle.smithy_http.specs.QueryWriter.{SpellsNoTarget, SpellsTarget}
@@ -130,6 +130,14 @@ asked_signer sign_wanted env files =
 -- the text that words, variables, the texts of profile files, the digest of the data and a moment give, whatever the URL has, or why there is none
 abbrev pub PrintsAnew : SignWanted → List (List ℕ × List ℕ) → List FileText → Option (List ℕ) → Instant → Result (Vec ℕ) Fault → Type 0
 PrintsAnew sign_wanted env files digest at result = PrintsFor sign_wanted (asked_signer sign_wanted env files) digest at result
+
+-- a source gave 2^64 - 1 bytes and more, and no end
+abbrev pub GivesNoEnd : Option (List ℕ) → Option (List ℕ) → Type 0
+GivesNoEnd before now = (bytes : List ℕ) × IsCutOf before bytes now × (2 ^ 64 - 1 ≤ length bytes)
+
+-- the data couldn't be read: its source counted a fault, or gave no end
+abbrev pub FailsReading : ℕ → ℕ → Option (List ℕ) → Option (List ℕ) → Type 0
+FailsReading faults faults_now before now = RoseOrStands faults faults_now ⊎ GivesNoEnd before now
 
 -- a URL is to be presigned that is presigned already
 abbrev pub PresignsAgain : SignWanted → Type 0

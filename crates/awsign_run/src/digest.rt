@@ -5,7 +5,7 @@ ghost use Rattle.hex.specs.Hex.{encode_lower};
 ghost use Rattle.sha2.specs.Hashers.{Holds256};
 ghost use Rattle.sha2.specs.Sha256.{sha256};
 ghost use Rattle.smithy_core.specs.Outside.{IsAtEnd, IsCutOf, RoseOrStands};
-ghost use Rattle.awsign_run.specs.Signing.{DigestsAll};
+ghost use Rattle.awsign_run.specs.Signing.{DigestsAll, GivesNoEnd};
 
 use sha2::{Digest, Sha256};
 use smithy_core::{ByteSource, Mem, ReadFault};
@@ -23,11 +23,12 @@ const PIECE: usize = 65_536;
 pub fn digest_of<S: ByteSource>(alloc: Global, source: &mut S) -> Result<String, ReadFault>
     ensures digest { IfOk result (λ text. DigestsAll (S.left source.old) (S.left source.new) (string_bytes text)) }
     ensures count { S.faults source.old ≤ S.faults source.new }
+    ensures too_large { IsErrOf result ReadFault.TooLarge → GivesNoEnd (S.left source.old) (S.left source.new) }
     ensures failed { IsErrOf result ReadFault.Failed → RoseOrStands (S.faults source.old) (S.faults source.new) }
 {
     let mut hasher = Sha256::new();
     let mut buffer = [0u8; PIECE];
-    'reads: for _ in 0..u64::MAX {
+    'reads: for _read in 0..u64::MAX {
         match source.read(&mut buffer) {
             Err(_) => return Err(ReadFault::Failed),
             Ok(0) => return Ok(digits_of(alloc, hasher)?),

@@ -1,13 +1,14 @@
 //! A run of the tool, behind its words.
-ghost use Rattle.std.specs.Prelude.{◌≡◌, ◌≤◌, ◌++◌, [], IfOk, OnErr, codes, map, true, option_copied, option_map, string_bytes};
+ghost use Rattle.std.specs.Prelude.{◌≡◌, ◌≤◌, ◌++◌, [], IfOk, IsErrOf, OnErr, codes, map, true, option_copied, option_map, string_bytes};
 ghost use Rattle.smithy_core.specs.Given.{Gives};
-ghost use Rattle.smithy_core.specs.Outside.{CountsFault, Gains, GainsProperPrefix};
+ghost use Rattle.smithy_core.specs.Outside.{CountsFault, Gains, GainsProperPrefix, RoseOrStands};
 ghost use Rattle.smithy_core.specs.TextPairs.{last_value};
 ghost use Rattle.env_config.specs.Files.{chosen_places, file_places};
 ghost use Rattle.env_config.specs.Source.{file_of};
 ghost use Rattle.env_config.specs.Loading.{Loaded, StopsAtFile};
 ghost use Rattle.awsign_run.specs.Chosen.{asked_profile};
 ghost use Rattle.awsign_run.specs.Run.{Digests, GivesByDigest, GivesByFiles, GivesRunText, HasWritten, LoadsAsked, RanSigning, TakesAskedMoment, asked_moment, asked_places, named_place, or_usual};
+ghost use Rattle.awsign_run.specs.Signing.{FailsReading, GivesNoEnd};
 ghost use Rattle.awsign_words.specs.Words.{has, sign_wanted};
 
 use crate::digest::digest_of;
@@ -46,6 +47,9 @@ pub fn run_signing<S: ByteSource, D: Disk, C: Clock, K: ByteSink>(
     ensures outside { (D.files disk.new ≡ D.files disk.old) × (D.faults disk.old ≤ D.faults disk.new) × (S.faults body.old ≤ S.faults body.new)
         × (K.faults out.old ≤ K.faults out.new) }
 
+    // It answers that the data couldn't be read only where its source counted a fault, or gave 2^64 - 1 bytes and no end.
+    ensures unread { result ≡ Status.DataFault → FailsReading (S.faults body.old) (S.faults body.new) (S.left body.old) (S.left body.new) }
+
     // It answers that the output failed exactly where that counted a fault.
     ensures failed { CountsFault (result ≡ Status.OutputFault) (K.faults out.old) (K.faults out.new) }
 {
@@ -81,6 +85,7 @@ fn signed_bytes<S: ByteSource, D: Disk, C: Clock>(
         (Loaded D.answers D.faults (D.files disk.old) env.now (asked_places asked.now.options) disk.old disk.new)
         (StopsAtFile D.answers D.faults (D.files disk.old) env.now (asked_places asked.now.options) disk.old disk.new) result }
     ensures outside { (D.files disk.new ≡ D.files disk.old) × (D.faults disk.old ≤ D.faults disk.new) × (S.faults body.old ≤ S.faults body.new) }
+    ensures unread { IsErrOf result Status.DataFault → FailsReading (S.faults body.old) (S.faults body.new) (S.left body.old) (S.left body.new) }
 {
     match load_source(alloc, env, disk, &asked.options) {
         Ok(source) => sign_source(alloc, asked, env, &source, body, clock),
@@ -102,6 +107,7 @@ fn sign_source<S: ByteSource, C: Clock>(
         (TakesAskedMoment (λ taken. Gives C.Clock clock.old taken clock.new) (asked_moment asked.now.options))
         (sign_wanted asked.now) env.now (map file_of source.now.files.items) result }
     ensures count { S.faults body.old ≤ S.faults body.new }
+    ensures unread { IsErrOf result Status.DataFault → FailsReading (S.faults body.old) (S.faults body.new) (S.left body.old) (S.left body.new) }
 {
     match data_digest(alloc, &asked.options, body) {
         Ok(digest) => sign_digest(alloc, asked, env, source, &digest, clock),
@@ -214,6 +220,8 @@ fn data_digest<S: ByteSource>(
 ) -> Result<Option<String>, ReadFault>
     ensures digests { IfOk result (λ digest. Digests options.now (S.left body.old) (S.left body.new) (option_map string_bytes digest)) }
     ensures named { OnErr result (has options.now (codes "--data") ≡ true) }
+    ensures failed { IsErrOf result ReadFault.Failed → RoseOrStands (S.faults body.old) (S.faults body.new) }
+    ensures too_large { IsErrOf result ReadFault.TooLarge → GivesNoEnd (S.left body.old) (S.left body.new) }
     ensures count { S.faults body.old ≤ S.faults body.new }
 {
     if options.get("--data").is_some() {
