@@ -69,7 +69,7 @@ Presigns old method text seconds at new (Err fault) =
 
 -- ## On the way
 
--- whether a text is that of a presigned target, or memory ran out
+-- whether a text is that of a presigned target
 abbrev pub TellsPresigned : List ℕ → Bool → Type 0
 TellsPresigned text true = IsPresignedAlready text
 TellsPresigned text false = IsPresignedAlready text → ⊥
