@@ -24,7 +24,7 @@ mac_of_block block text = sha256 (xored 0x5C block ++ sha256 (xored 0x36 block +
 unfoldable pub mac : List ℕ → List ℕ → List ℕ
 mac key text = mac_of_block (key_block key) text
 
--- the hasher has this key block, and has taken this text
+-- the hasher has taken the outer pad of this key block, and its inner pad and this text
 pub record HoldsMac (hasher : HmacSha256) (block text : List ℕ) : Type 0 where
-  pub outer : hasher.outer ≡ xored 0x5C block
+  pub outer : Holds256 hasher.outer (xored 0x5C block)
   pub inner : Holds256 hasher.inner (xored 0x36 block ++ text)

@@ -21,10 +21,22 @@ const NONE_DIGESTED: &str = "e3b0c44298fc1c149afbf4c8996fb92427ae41e4649b934ca49
 
 /// HMAC over SHA-256 (RFC 2104), its text taken in pieces.
 ///
+/// Both pads are hashed when it is made, two blocks of SHA-256. Who has several texts under one key makes it once, and takes a
+/// copy for each text:
+///
+/// ```rust
+/// let keyed = HmacSha256::new(key);
+/// for text in texts {
+///     let mut hasher = keyed.clone()?;
+///     hasher.update(text);
+///     codes.push(hasher.finalize())?;
+/// }
+/// ```
+///
 /// Contracts see it as its key block and the text so far, by the relation `HoldsMac`.
 #[derive(Drop)]
 pub struct HmacSha256 {
-    outer: [u8; BLOCK],
+    outer: Sha256,
     inner: Sha256,
 }
 
@@ -46,11 +58,9 @@ impl HmacSha256 {
     fn with_block(block: [u8; BLOCK]) -> Self
         ensures { HoldsMac result block [] }
     {
-        let mut inner = Sha256::new();
-        inner.update(xor_block(&block, INNER_PAD).as_slice());
         HmacSha256 {
-            outer: xor_block(&block, OUTER_PAD),
-            inner,
+            outer: Sha256::new_with_prefix(xor_block(&block, OUTER_PAD).as_slice()),
+            inner: Sha256::new_with_prefix(xor_block(&block, INNER_PAD).as_slice()),
         }
     }
 
@@ -66,11 +76,26 @@ impl HmacSha256 {
     pub fn finalize(self) -> [u8; 32]
         ensures { (block text : List ℕ) → HoldsMac self block text → result ≡ mac_of_block block text }
     {
-        let inner = self.inner.finalize();
-        let mut outer = Sha256::new();
-        outer.update(self.outer.as_slice());
-        outer.update(inner.as_slice());
+        let HmacSha256 { mut outer, inner } = self;
+        let digest = inner.finalize();
+        outer.update(digest.as_slice());
         outer.finalize()
+    }
+}
+
+// The copy has the same key and the same text, and takes no memory.
+impl Clone for HmacSha256 {
+    ghost use Rattle.std.specs.Prelude.{⊤};
+
+    ghost is_clone = { λ hasher copy. copy ≡ hasher };
+
+    ghost is_infallible = { λ _. ⊤ };
+
+    fn clone(&self) -> Result<HmacSha256, AllocError> {
+        Ok(HmacSha256 {
+            outer: self.outer.clone()?,
+            inner: self.inner.clone()?,
+        })
     }
 }
 
