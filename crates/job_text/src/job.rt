@@ -3,6 +3,7 @@ ghost use Rattle.std.specs.Prelude.{◌≡◌, IfOk};
 ghost use Rattle.job_text.specs.Job.{job, whole_job};
 ghost use Rattle.job_text.specs.Draft.{ReadsJob, draft_of, job_parts};
 
+mod bytes_pool;
 mod draft;
 mod event;
 mod event_header;

@@ -1,4 +1,5 @@
 use crate::fault::LineFault;
+use crate::job::bytes_pool::BytesPool;
 use crate::job::event::OpenEvent;
 use crate::job::event_header::{header_of, hex_bytes};
 use crate::lines::{TakeLine, cut_word};
@@ -6,12 +7,14 @@ use crate::request_lines::RequestDraft;
 use smithy_core::{Mem, Message};
 use std::alloc::Global;
 
-/// What the lines so far gave: the request with the texts of profile files, the finished events, and the open one.
+/// What the lines so far gave: the request with the texts of profile files, the finished events, and the open one. The pool has
+/// the short names, values and payloads of events.
 #[derive(Drop)]
 pub struct Draft {
     pub request: RequestDraft,
     pub events: Vec<Message>,
     pub event: Option<OpenEvent>,
+    pub pool: BytesPool,
 }
 
 impl Draft {
@@ -29,6 +32,7 @@ impl Draft {
             request: RequestDraft::new(alloc),
             events: Vec::new(alloc),
             event: None,
+            pool: BytesPool::new(alloc),
         }
     }
 
@@ -88,7 +92,7 @@ impl Draft {
     {
         match &mut self.event {
             Some(event) => {
-                let header = header_of(alloc, rest)?;
+                let header = header_of(alloc, &mut self.pool, rest)?;
                 event.headers.push(header)?;
                 Ok(())
             }
@@ -103,7 +107,8 @@ impl Draft {
     {
         match &mut self.event {
             Some(event) if event.payload.is_none() => {
-                event.payload = Some(hex_bytes(alloc, rest)?);
+                let payload = hex_bytes(alloc, rest)?;
+                event.payload = Some(self.pool.pooled(payload)?);
                 Ok(())
             }
             _ => Err(LineFault::Bad),

@@ -3,20 +3,21 @@ ghost use Rattle.job_text.specs.EventHeader.{hex_bytes, event_header, fixed_valu
 ghost use Rattle.job_text.specs.Draft.{GivesSpelled};
 
 use crate::fault::LineFault;
+use crate::job::bytes_pool::BytesPool;
 use crate::lines::cut_word;
 use crate::numbers::{parse_i8, parse_i16, parse_i32, parse_i64, parse_nanos};
 use bytes::Bytes;
 use hex::{FromHex, FromHexError};
-use smithy_core::{DateTime, Header, HeaderValue, StrBytes};
+use smithy_core::{DateTime, Header, HeaderValue};
 use std::alloc::Global;
 
-/// The header of `NAME KIND VALUE`.
+/// The header of `NAME KIND VALUE`, whose texts and bytes share a pool's blocks where they are short.
 ///
 /// # Errors
 ///
 /// [`LineFault::Bad`] where the text isn't of this form.
 #[tactic(auto, unfolding(crate::specs::EventHeader::event_header))]
-pub fn header_of(alloc: Global, rest: &str) -> Result<Header, LineFault>
+pub fn header_of(alloc: Global, pool: &mut BytesPool, rest: &str) -> Result<Header, LineFault>
     ensures { GivesSpelled (event_header rest.now) result }
 {
     let (name, rest) = cut_word(rest);
@@ -24,19 +25,23 @@ pub fn header_of(alloc: Global, rest: &str) -> Result<Header, LineFault>
         return Err(LineFault::Bad);
     }
     let (kind, text) = cut_word(rest);
-    let value = value_of(alloc, kind, text)?;
-    let name = StrBytes::copy_from_str(alloc, name)?;
-    Ok(Header::new(name, value))
+    let value = value_of(alloc, pool, kind, text)?;
+    Ok(Header::new(pool.text(name)?, value))
 }
 
 // The value of `KIND VALUE`.
 #[tactic(auto, unfolding(crate::specs::EventHeader::header_value))]
-fn value_of(alloc: Global, kind: &str, text: &str) -> Result<HeaderValue, LineFault>
+fn value_of(
+    alloc: Global,
+    pool: &mut BytesPool,
+    kind: &str,
+    text: &str,
+) -> Result<HeaderValue, LineFault>
     ensures { GivesSpelled (header_value kind.now text.now) result }
 {
     match kind {
-        "bytes" => Ok(HeaderValue::ByteArray(hex_bytes(alloc, text)?)),
-        "text" => Ok(HeaderValue::String(StrBytes::copy_from_str(alloc, text)?)),
+        "bytes" => Ok(HeaderValue::ByteArray(pool.pooled(hex_bytes(alloc, text)?)?)),
+        "text" => Ok(HeaderValue::String(pool.text(text)?)),
         _ => fixed_value(kind, text).ok_or(LineFault::Bad),
     }
 }
