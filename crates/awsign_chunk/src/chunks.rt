@@ -13,8 +13,9 @@ ghost use Rattle.awsign_chunk.specs.Sum.{HoldsSum};
 ghost use Rattle.awsign_words.specs.declared.words.Checksum.{Checksum as Asked};
 
 use crate::sent::{BodyPlan, Running};
-use crate::text::{chunk_text, tail_text};
+use crate::text::chunk_text;
 use aws_auth::SigV4MessageSigner;
+use aws_chunked::parts::tail_text;
 use awsign_run::Chosen;
 use bytes::Bytes;
 use job_text::lent;
@@ -89,7 +90,7 @@ fn signed_end(
 {
     let signature = chunk_signature(is_signed, signer, &Bytes::new())?;
     let last = trailer_signature(is_signed, signer, trailers)?;
-    tail_text(alloc, lent(&signature), trailers, lent(&last))
+    tail_text(alloc, lent(&signature), Some(trailers), lent(&last))
 }
 
 // The signature of a chunk, where chunks are signed. Credentials sign at a moment in the years, so they refuse a chunk only where
