@@ -9,7 +9,7 @@ use crate::error::AwsChunkedBodyError;
 use crate::made_text::MadeText;
 use crate::options::AwsChunkedBodyOptions;
 use crate::signing::has_signature;
-use crate::text::{CRLF, as_text, head, shared, tail};
+use crate::text::{CRLF, as_text, head_text, shared, tail_text};
 use bytes::Bytes;
 use seg_buf::SegBuf;
 use sigv4::{SignChunk, SigningError};
@@ -133,7 +133,7 @@ impl<G> ChunkEngine<G> {
         ensures text { OnOk result (self.new.ready ≡ chunk_text (option_map string_bytes signature.now) piece) }
         ensures others { self.new ≡ record self.old { ready = self.new.ready } }
     {
-        let head = head(alloc, piece.len(), as_text(signature))?;
+        let head = head_text(alloc, piece.len(), as_text(signature))?;
         self.ready.push(shared(head)?)?;
         self.ready.push(piece)?;
         self.ready.push(Bytes::from_static(CRLF))
@@ -152,7 +152,7 @@ impl<G> ChunkEngine<G> {
             ≡ tail_text (option_map string_bytes signature.now) (listed trailers.now) (option_map string_bytes last.now)) }
         ensures others { self.new ≡ record self.old { ready = self.new.ready } }
     {
-        let text = tail(alloc, as_text(signature), trailers.as_ref(), as_text(last))?;
+        let text = tail_text(alloc, as_text(signature), trailers.as_ref(), as_text(last))?;
         self.ready.push(shared(text)?)
     }
 }

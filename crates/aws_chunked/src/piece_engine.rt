@@ -6,7 +6,7 @@ use crate::arrivals::Arrivals;
 use crate::error::AwsChunkedBodyError;
 use crate::options::AwsChunkedBodyOptions;
 use crate::phase::Phase;
-use crate::text::{head, last_lines, shared};
+use crate::text::{head_text, last_lines, shared};
 use bytes::Bytes;
 use smithy_core::Mem;
 use std::alloc::Global;
@@ -38,7 +38,7 @@ impl PieceEngine {
         ensures ok { OnOk result (self.new ≡ record { sent = sent_after length }) }
         ensures err { OnErr result (self.new ≡ self.old) }
     {
-        let line = shared(head(alloc, length as usize, None)?)?;
+        let line = shared(head_text(alloc, length as usize, None)?)?;
         self.sent = sent_after(length);
         Ok(line)
     }

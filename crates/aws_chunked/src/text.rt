@@ -11,8 +11,8 @@ use std::alloc::Global;
 // The end of a line.
 pub(crate) const CRLF: &[u8] = b"\r\n";
 
-// The line before a chunk of this length.
-pub(crate) fn head(alloc: Global, length: usize, signature: Option<&str>) -> Mem<Vec<u8>>
+/// The line before a chunk of this length.
+pub fn head_text(alloc: Global, length: usize, signature: Option<&str>) -> Mem<Vec<u8>>
     ensures { IfOk result (λ text. text.items ≡ head_text length (option_copied signature.entry)) }
 {
     let mut text = format!(in alloc; "{length:X}")?.into_bytes();
@@ -49,9 +49,9 @@ fn push_signature(text: &mut Vec<u8>, signature: Option<&str>) -> Mem<()>
     Ok(())
 }
 
-// The end of a text: the empty chunk, the trailers and their signature, and an empty line.
+/// The end of a text: the empty chunk, the trailers and their signature, and an empty line.
 #[tactic(auto, unfolding(crate::specs::Text::tail_text))]
-pub(crate) fn tail(
+pub fn tail_text(
     alloc: Global,
     signature: Option<&str>,
     trailers: Option<&Headers>,
@@ -59,7 +59,7 @@ pub(crate) fn tail(
 ) -> Mem<Vec<u8>>
     ensures { IfOk result (λ text. text.items ≡ tail_text (option_copied signature.entry) (listed (option_copied trailers.entry)) (option_copied trailer_signature.entry)) }
 {
-    let mut text = head(alloc, 0, signature)?;
+    let mut text = head_text(alloc, 0, signature)?;
     push_trailers(&mut text, trailers)?;
     push_last(&mut text, trailer_signature)?;
     text.extend_from_slice(CRLF)?;

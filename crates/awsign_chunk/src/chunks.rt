@@ -1,5 +1,5 @@
 //! The text of a body, chunk by chunk.
-ghost use Rattle.std.specs.Prelude.{◌≡◌, ◌++◌, [], ℕ, List, Option, IfOk, IsTrue, option_copied, option_map, string_bytes};
+ghost use Rattle.std.specs.Prelude.{◌≡◌, ◌++◌, [], ℕ, List, Option, IfOk, IsTrue, option_map, string_bytes};
 ghost use Rattle.smithy_core.specs.Civil.{is_in_years};
 ghost use Rattle.smithy_core.specs.Moment.{Instant};
 ghost use Rattle.eventstream.specs.Key.{Signer as Who};
@@ -13,10 +13,12 @@ ghost use Rattle.awsign_chunk.specs.Sum.{HoldsSum};
 ghost use Rattle.awsign_words.specs.declared.words.Checksum.{Checksum as Asked};
 
 use crate::sent::{BodyPlan, Running};
-use crate::text::{chunk_text, tail_text};
+use crate::text::chunk_text;
 use aws_auth::SigV4MessageSigner;
+use aws_chunked::parts::tail_text;
 use awsign_run::Chosen;
 use bytes::Bytes;
+use job_text::lent;
 use sigv4::{SignChunk, SigningSettings};
 use smithy_core::{Headers, Identity, Mem, Moment, Region, SigningName};
 use std::alloc::{AllocError, Global};
@@ -56,7 +58,7 @@ pub(crate) fn next_text(
 {
     let piece = Bytes::from_vec(piece)?;
     let signature = chunk_signature(is_signed, signer, &piece)?;
-    chunk_text(alloc, as_text(&signature), piece.as_slice())
+    chunk_text(alloc, lent(&signature), piece.as_slice())
 }
 
 /// The end of the text behind all data: the empty chunk, and the trailers with that of the checksum.
@@ -88,7 +90,7 @@ fn signed_end(
 {
     let signature = chunk_signature(is_signed, signer, &Bytes::new())?;
     let last = trailer_signature(is_signed, signer, trailers)?;
-    tail_text(alloc, as_text(&signature), trailers, as_text(&last))
+    tail_text(alloc, lent(&signature), Some(trailers), lent(&last))
 }
 
 // The signature of a chunk, where chunks are signed. Credentials sign at a moment in the years, so they refuse a chunk only where
@@ -122,15 +124,5 @@ fn trailer_signature(
     match signer.trailer_signature(trailers) {
         Ok(signature) => Ok(Some(signature)),
         Err(_) => Err(AllocError),
-    }
-}
-
-// The text, where there is one.
-fn as_text(text: &Option<String>) -> Option<&str>
-    ensures { option_copied result ≡ option_map string_bytes text.now }
-{
-    match text {
-        Some(text) => Some(text.as_str()),
-        None => None,
     }
 }

@@ -64,8 +64,8 @@ impl Fault {
     }
 }
 
-// The paths of profile files.
-fn file_paths(alloc: Global, files: &[File]) -> Mem<String>
+/// The paths of profile files, with commas between them.
+pub fn file_paths(alloc: Global, files: &[File]) -> Mem<String>
     ensures { IfOk result (λ text. string_bytes text ≡ file_paths (map file_of files.now)) }
 {
     let mut paths = Vec::new(alloc);

@@ -1,8 +1,7 @@
 //! A run of the tool, behind its words.
-ghost use Rattle.std.specs.Prelude.{◌≡◌, ◌≤◌, ◌++◌, [], IfOk, IsErrOf, OnErr, codes, map, true, option_copied, option_map, string_bytes};
+ghost use Rattle.std.specs.Prelude.{◌≡◌, ◌≤◌, ◌++◌, IfOk, IsErrOf, OnErr, codes, map, true, option_copied, option_map, string_bytes};
 ghost use Rattle.smithy_core.specs.Given.{Gives};
-ghost use Rattle.smithy_core.specs.Outside.{CountsFault, Gains, GainsProperPrefix, RoseOrStands};
-ghost use Rattle.smithy_core.specs.TextPairs.{last_value};
+ghost use Rattle.smithy_core.specs.Outside.{CountsFault, RoseOrStands};
 ghost use Rattle.env_config.specs.Files.{chosen_places, file_places};
 ghost use Rattle.env_config.specs.Source.{file_of};
 ghost use Rattle.env_config.specs.Loading.{Loaded, StopsAtFile};
@@ -19,7 +18,7 @@ use awsign_words::Asked;
 use env_config::{
     BuildFault, Builder, EnvConfigFileKind, EnvConfigFileLoadError, EnvConfigFiles, Source, load,
 };
-use job_text::parse_i64;
+use job_text::{lent, parse_i64};
 use smithy_core::{ByteSink, ByteSource, Clock, Disk, Env, Mem, Moment, ReadFault, write_all};
 use std::alloc::{AllocError, Global};
 
@@ -129,19 +128,9 @@ fn sign_digest<C: Clock>(
         (sign_wanted asked.now) env.now (map file_of source.now.files.items) (option_map string_bytes digest.now) result }
 {
     let at = moment_of(moment_asked(&asked.options), clock);
-    match signed_text(alloc, asked, env, source, borrowed(digest), at) {
+    match signed_text(alloc, asked, env, source, lent(digest), at) {
         Ok(text) => Ok(text),
         Err(fault) => Err(Status::from(fault)),
-    }
-}
-
-// The text, where there is one.
-fn borrowed(text: &Option<String>) -> Option<&str>
-    ensures { option_copied result ≡ option_map string_bytes text.now }
-{
-    match text {
-        Some(text) => Some(text.as_str()),
-        None => None,
     }
 }
 

@@ -9,7 +9,7 @@ use Rattle.awsign_run.specs.declared.status.Status.{Status}
 use Rattle.awsign_run.specs.declared.status.Status.TheVariants.{Done, BadWord, CouldNotReadFile, DataFault, Refused, OutputFault, NoMemory}
 use Rattle.awsign_settings.specs.Own.{Own, own_profiles}
 use Rattle.awsign_settings.specs.Settings.{Used, UsedSettings, given_choice, used_settings}
-use Rattle.awsign_settings.specs.Told.{paths_text, settings_text}
+use Rattle.awsign_settings.specs.Told.{settings_text}
 
 -- ## What can be signed
 
@@ -43,7 +43,7 @@ TellsText text refusal DataFault before now = ⊥
 -- the settings were told by what each profile file has by itself; the files are at these paths
 abbrev pub TellsOwns : List ℕ → OptionValues → List (List ℕ × List ℕ) → List Own → Status → Option (List ℕ) → Option (List ℕ) → Type 0
 TellsOwns paths options env owns =
-    TellsText (settings_text (paths_text owns) (used_settings options env owns)) (settings_refusal paths (used_settings options env owns))
+    TellsText (settings_text paths (used_settings options env owns)) (settings_refusal paths (used_settings options env owns))
 
 -- nothing was written, for this reason or since memory ran out
 abbrev pub TellsNothing : SignRefusal → Status → Option (List ℕ) → Option (List ℕ) → Type 0

@@ -1,9 +1,7 @@
 -- What is told of the settings: a line for each, with its value, and where it came from.
 use Rattle.std.specs.Prelude.{ℕ, ◌-◌, if◌then◌else◌, List, ◌++◌, length, drop, codes, Option, Some, None, option_map}
 use Rattle.std.specs.Fmt.{decimal}
-use Rattle.std.specs.List.{join_by}
 use Rattle.smithy_core.specs.Text.{line}
-use Rattle.awsign_settings.specs.Own.{Own, own_path}
 use Rattle.awsign_settings.specs.Settings.{Used, UsedKey, UsedSettings, Whence, by_file, by_name, by_nothing}
 use Rattle.awsign_settings.specs.declared.told.Shown.{Shown}
 use Rattle.awsign_settings.specs.declared.told.Shown.TheVariants.{Plain, Masked, Hidden}
@@ -29,10 +27,6 @@ tabbed_line name value whence = line (name ++ (codes "\t" ++ (value ++ (codes "\
 abbrev pub told_setting : List ℕ → Shown → List ℕ → Option Used → List ℕ
 told_setting name form missed None = tabbed_line name (codes "not set") missed
 told_setting name form missed (Some used) = tabbed_line name (value_shown form used.value) (whence_text used.whence)
-
--- the paths of the profile files, with commas between them
-abbrev pub paths_text : List Own → List ℕ
-paths_text owns = join_by own_path (codes ", ") owns
 
 -- where a part of the key was looked for: in this variable beside the one of the key id, or in the files
 abbrev pub missed_at : UsedKey → List ℕ → List ℕ → List ℕ

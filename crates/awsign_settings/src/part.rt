@@ -1,9 +1,10 @@
 //! What a profile has to sign with, part by part.
-ghost use Rattle.std.specs.Prelude.{◌≡◌, option_copied, option_map, string_bytes};
+ghost use Rattle.std.specs.Prelude.{◌≡◌, option_copied};
 ghost use Rattle.aws_settings.specs.Choice.{profile_values};
 ghost use Rattle.awsign_settings.specs.Own.{part_in, part_key};
 
 use aws_settings::ProfileValues;
+use job_text::lent;
 
 /// A part of what a profile has to sign with.
 #[derive(Clone, Copy, Debug, PartialEq, Eq)]
@@ -36,20 +37,10 @@ impl Part {
         ensures { option_copied result ≡ part_in self (profile_values values.now) }
     {
         match self {
-            Part::KeyId => borrowed(&values.key_id),
-            Part::Secret => borrowed(&values.secret),
-            Part::Token => borrowed(&values.token),
-            Part::Region => borrowed(&values.region),
+            Part::KeyId => lent(&values.key_id),
+            Part::Secret => lent(&values.secret),
+            Part::Token => lent(&values.token),
+            Part::Region => lent(&values.region),
         }
-    }
-}
-
-// The text, where there is one.
-fn borrowed(text: &Option<String>) -> Option<&str>
-    ensures { option_copied result ≡ option_map string_bytes text.now }
-{
-    match text {
-        Some(text) => Some(text.as_str()),
-        None => None,
     }
 }

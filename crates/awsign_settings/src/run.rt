@@ -7,13 +7,13 @@ ghost use Rattle.awsign_run.specs.Chosen.{asked_profile, file_paths, refusal_of}
 ghost use Rattle.awsign_run.specs.Run.{asked_places};
 ghost use Rattle.awsign_settings.specs.Own.{own_of};
 ghost use Rattle.awsign_settings.specs.Settings.{used_of, used_settings_of};
-ghost use Rattle.awsign_settings.specs.Told.{paths_text, settings_text};
+ghost use Rattle.awsign_settings.specs.Told.{settings_text};
 ghost use Rattle.awsign_settings.specs.SettingsRun.{RanSettings, TellsFiles, TellsOwns, TellsText, region_refusal, settings_refusal};
 
 use crate::own::{OwnProfile, own_profiles};
 use crate::settings::{Settings, lack, settings_of};
 use crate::told::settings_text;
-use awsign_run::{Fault, Status, load_source};
+use awsign_run::{Fault, Status, file_paths, load_source};
 use env_config::Source;
 use smithy_core::{ByteSink, Disk, Env, Mem, write_all};
 use std::alloc::Global;
@@ -82,7 +82,7 @@ fn tell_owns<K: ByteSink>(
     ensures failed { CountsFault (result ≡ Status.OutputFault) (K.faults out.old) (K.faults out.new) }
 {
     match settings_of(alloc, options, env, owns) {
-        Ok(settings) => tell_settings(alloc, &settings, source, owns, out),
+        Ok(settings) => tell_settings(alloc, &settings, source, out),
         Err(_) => Status::NoMemory,
     }
 }
@@ -92,18 +92,19 @@ fn tell_settings<K: ByteSink>(
     alloc: Global,
     settings: &Settings<'_>,
     source: &Source,
-    owns: &[OwnProfile],
     out: &mut K,
 ) -> Status
-    ensures tells { let settings = used_settings_of settings.now in
-        TellsText (settings_text (paths_text (map own_of owns.now)) settings) (settings_refusal (file_paths (map file_of source.now.files.items)) settings) result
-        (K.held out.old) (K.held out.new) }
+    ensures tells { let settings = used_settings_of settings.now in let paths = file_paths (map file_of source.now.files.items) in
+        TellsText (settings_text paths settings) (settings_refusal paths settings) result (K.held out.old) (K.held out.new) }
     ensures failed { CountsFault (result ≡ Status.OutputFault) (K.faults out.old) (K.faults out.new) }
 {
     let Ok(refusal) = refusal_of(alloc, settings, source) else {
         return Status::NoMemory;
     };
-    match settings_text(alloc, settings, owns) {
+    let Ok(paths) = file_paths(alloc, source.files.as_slice()) else {
+        return Status::NoMemory;
+    };
+    match settings_text(alloc, settings, paths.as_str()) {
         Ok(text) => tell(text.as_slice(), refusal, out),
         Err(_) => Status::NoMemory,
     }

@@ -1,11 +1,9 @@
 //! What is told of the settings.
-ghost use Rattle.std.specs.Prelude.{◌≡◌, ◌++◌, ◌-◌, IfOk, OnOk, drop, length, map, option_map};
+ghost use Rattle.std.specs.Prelude.{◌≡◌, ◌++◌, ◌-◌, IfOk, OnOk, drop, length, option_map};
 ghost use Rattle.std.specs.String.{string_bytes};
-ghost use Rattle.awsign_settings.specs.Own.{own_of};
 ghost use Rattle.awsign_settings.specs.Settings.{used_key_of, used_of, used_settings_of, whence_of};
-ghost use Rattle.awsign_settings.specs.Told.{key_lines, missed_at, paths_text, told_setting, settings_text, value_shown, tabbed_line, whence_text};
+ghost use Rattle.awsign_settings.specs.Told.{key_lines, missed_at, told_setting, settings_text, value_shown, tabbed_line, whence_text};
 
-use crate::own::OwnProfile;
 use crate::settings::{KeySettings, Settings};
 use crate::sourced::{Origin, Sourced};
 use smithy_core::{Mem, push_line};
@@ -23,13 +21,12 @@ pub enum Shown {
 }
 
 /// What is told of settings: a line for each of profile, key, secret, token and region, with its value, or that it isn't set, and where it
-/// came from, or was looked for. Of the key's id it has the last four bytes, and of secret and token none.
+/// came from, or was looked for: `paths` are those of the profile files. Of the key's id it has the last four bytes, and of secret and
+/// token none.
 #[tactic(auto, unfolding(crate::specs::Told::settings_text))]
-pub fn settings_text(alloc: Global, settings: &Settings<'_>, owns: &[OwnProfile]) -> Mem<Vec<u8>>
-    ensures { IfOk result (λ text. text.items ≡ settings_text (paths_text (map own_of owns.now)) (used_settings_of settings.now)) }
+pub fn settings_text(alloc: Global, settings: &Settings<'_>, paths: &str) -> Mem<Vec<u8>>
+    ensures { IfOk result (λ text. text.items ≡ settings_text paths.now (used_settings_of settings.now)) }
 {
-    let paths = paths_text(alloc, owns)?;
-    let paths = paths.as_str();
     let mut text = Vec::new(alloc);
     push_setting(
         alloc,
@@ -129,15 +126,4 @@ fn whence_text(alloc: Global, origin: Origin<'_>) -> Mem<String>
         Origin::File(path, Some(place)) => format!(in alloc; "{path}, line {place}"),
         Origin::Unnamed => String::from_str(alloc, "not named"),
     }
-}
-
-// The paths of the profile files.
-fn paths_text(alloc: Global, owns: &[OwnProfile]) -> Mem<String>
-    ensures { IfOk result (λ text. string_bytes text ≡ paths_text (map own_of owns.now)) }
-{
-    let mut paths = Vec::new(alloc);
-    for own in owns {
-        paths.push(own.path())?;
-    }
-    paths.as_slice().join(alloc, ", ")
 }

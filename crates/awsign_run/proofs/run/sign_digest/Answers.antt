@@ -12,7 +12,7 @@ returns-in-Ok g c =
     let moment = TakesAskedMoment (λ taken. Gives g.C.Clock c.args.clock.now taken c.moment_of-at.new.clock) (asked_moment c.args.asked.now.options) in
     let at : moment c.moment_of-at.result = rw (← c.moment_asked.ensures) c.moment_of-at.ensures in
     moment_given moment (sign_wanted c.args.asked.now) c.args.env.now (map file_of c.args.source.now.files.items) (option_map string_bytes c.args.digest.now)
-    c.moment_of-at.result c.in-Ok.text at (rw (← c.borrowed.ensures) c.in-Ok.ensures)
+    c.moment_of-at.result c.in-Ok.text at (rw (← c.lent.ensures) c.in-Ok.ensures)
 
 pub returns-in-Err : goal.returns-in-Err
 returns-in-Err g c =
@@ -20,4 +20,4 @@ returns-in-Err g c =
     let at : moment c.moment_of-at.result = rw (← c.moment_asked.ensures) c.moment_of-at.ensures in
     rw c.from.ensures
     (text_refused moment (sign_wanted c.args.asked.now) c.args.env.now (map file_of c.args.source.now.files.items) (option_map string_bytes c.args.digest.now)
-    c.moment_of-at.result c.in-Err.fault at (rw (← c.borrowed.ensures) c.in-Err.ensures))
+    c.moment_of-at.result c.in-Err.fault at (rw (← c.lent.ensures) c.in-Err.ensures))
