@@ -39,13 +39,13 @@ length-spelling h spelled =
     omega (arith, length-append h.name (value_spelling h.value), length-value_spelling h.value)
 
 -- headers that have spellings
-length-block : (headers : List Header) → first_unspelled headers ≡ None → length (block headers) ≡ sum_by header_width headers
-length-block [] spelled = refl
-length-block (h ∷ headers) spelled =
+pub length_block : (headers : List Header) → first_unspelled headers ≡ None → length (block headers) ≡ sum_by header_width headers
+length_block [] spelled = refl
+length_block (h ∷ headers) spelled =
     let parts = both_none (unspelled h) (first_unspelled headers) spelled in
-    rw sum_by-cons (omega (arith, length-append (spelling h) (block headers), length-spelling h parts.0, length-block headers parts.1))
+    rw sum_by-cons (omega (arith, length-append (spelling h) (block headers), length-spelling h parts.0, length_block headers parts.1))
 
 -- a message that has a frame is hinted to be as long
 pub length_framed : (m : Parts) → unframed m ≡ None → length (frame m) ≡ size_hint m
 unfolding size_hint
-length_framed m has = let is = framed m has in omega (arith, length-frame m, length-block m.headers is.spelled, is.short)
+length_framed m has = let is = framed m has in omega (arith, length-frame m, length_block m.headers is.spelled, is.short)

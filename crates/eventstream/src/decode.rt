@@ -185,7 +185,7 @@ impl MessageFrameDecoder {
             return Ok(DecodedFrame::Incomplete);
         }
         let rest = buffer.copy_front(left)?;
-        let read = read_frame(alloc, lengths, kept.bytes, &rest);
+        let read = read_frame(alloc, lengths, kept.bytes, rest);
         self.finish(buffer, left, read)
     }
 

@@ -54,5 +54,5 @@ pub(crate) fn read_front(
 {
     let mut frame = buffer.copy_front(lengths.total)?;
     frame.advance(PRELUDE);
-    read_frame(alloc, lengths, prelude, &frame)
+    read_frame(alloc, lengths, prelude, frame)
 }

@@ -9,7 +9,7 @@ mod headers;
 mod lengths;
 
 use crate::error::{Error, ErrorKind};
-use crate::read::headers::read_headers;
+use crate::read::headers::read_block;
 use crate::read::lengths::u32_at;
 pub(crate) use crate::read::lengths::{Lengths, read_prelude};
 use crate::write::LEAST_FRAME;
@@ -38,7 +38,7 @@ pub fn read_message_from(alloc: Global, buffer: &mut Bytes) -> Result<Message, E
     let prelude = *prelude;
     let lengths = read_prelude(&prelude)?;
     let rest = buffer.slice(PRELUDE..)?;
-    let message = read_frame(alloc, lengths, prelude, &rest)?;
+    let message = read_frame(alloc, lengths, prelude, rest)?;
     buffer.advance(lengths.total);
     Ok(message)
 }
@@ -63,7 +63,7 @@ pub fn read_held_message(alloc: Global, message: &Message) -> Result<(Message, u
     let lengths = read_prelude(&prelude)?;
     let rest = payload.slice(PRELUDE..)?;
     let whole = checksum_of_payload(message, lengths.total);
-    let held = read_summed_frame(alloc, lengths, prelude, &rest, whole)?;
+    let held = read_summed_frame(alloc, lengths, prelude, rest, whole)?;
     Ok((held, lengths.total))
 }
 
@@ -89,11 +89,11 @@ pub fn read_frame(
     alloc: Global,
     lengths: Lengths,
     prelude: [u8; PRELUDE],
-    rest: &Bytes,
+    rest: Bytes,
 ) -> Result<Message, Error>
     requires fit { AreFit lengths }
-    ensures read { GivesMessage (read_frame lengths prelude rest.now) lengths.total result }
-    ensures there { OnOk result (lengths.total ≤ prelude_len + length rest.now) }
+    ensures read { GivesMessage (read_frame lengths prelude rest) lengths.total result }
+    ensures there { OnOk result (lengths.total ≤ prelude_len + length rest) }
 {
     read_summed_frame(alloc, lengths, prelude, rest, None)
 }
@@ -104,34 +104,34 @@ fn read_summed_frame(
     alloc: Global,
     lengths: Lengths,
     prelude: [u8; PRELUDE],
-    rest: &Bytes,
+    rest: Bytes,
     whole: Option<Crc>,
 ) -> Result<Message, Error>
     requires fit { AreFit lengths }
-    requires known { IfSome whole (IsSumOf lengths.total prelude rest.now) }
-    ensures read { GivesMessage (read_frame lengths prelude rest.now) lengths.total result }
-    ensures there { OnOk result (lengths.total ≤ prelude_len + length rest.now) }
+    requires known { IfSome whole (IsSumOf lengths.total prelude rest) }
+    ensures read { GivesMessage (read_frame lengths prelude rest) lengths.total result }
+    ensures there { OnOk result (lengths.total ≤ prelude_len + length rest) }
 {
     if PRELUDE + rest.len() < lengths.total {
         return Err(Error::from(ErrorKind::InvalidMessageLength));
     }
-    let headers = read_headers(alloc, lengths.headers, rest.clone()?)?;
+    let headers = read_block(alloc, lengths.headers, &rest)?;
     read_message(lengths, prelude, rest, headers, whole)
 }
 
-// The message of these headers and the payload behind them, where the closing checksum is right.
+// The message of these headers and the payload behind them, where the closing checksum is right. The bytes become the payload.
 #[tactic(auto, unfolding(crate::specs::Read::checked_message))]
 fn read_message(
     lengths: Lengths,
     prelude: [u8; PRELUDE],
-    rest: &Bytes,
+    mut rest: Bytes,
     headers: Vec<Header>,
     whole: Option<Crc>,
 ) -> Result<Message, Error>
     requires fit { AreFit lengths }
-    requires there { lengths.total ≤ prelude_len + length rest.now }
-    requires known { IfSome whole (IsSumOf lengths.total prelude rest.now) }
-    ensures { GivesRead (checked_message lengths prelude rest.now headers.items) result }
+    requires there { lengths.total ≤ prelude_len + length rest }
+    requires known { IfSome whole (IsSumOf lengths.total prelude rest) }
+    ensures { GivesRead (checked_message lengths prelude rest headers.items) result }
 {
     let end = lengths.total - LEAST_FRAME;
     let (before, after) = sum_around(lengths, prelude.as_slice(), rest.as_slice(), whole);
@@ -140,8 +140,9 @@ fn read_message(
     if computed != carried {
         return Err(Error::from(ErrorKind::MessageChecksumMismatch(computed, carried)));
     }
-    let payload = rest.slice(lengths.headers..end)?;
-    Ok(Message::new_from_parts(headers, payload).with_checksums(before, after))
+    rest.advance(lengths.headers);
+    rest.truncate(end - lengths.headers);
+    Ok(Message::new_from_parts(headers, rest).with_checksums(before, after))
 }
 
 // The checksums before and after the payload of a frame, with its prelude and the bytes after it.

@@ -31,8 +31,8 @@ impl MessageSizeHint for Message {
     }
 }
 
-// The bytes of the headers.
-fn headers_width(headers: &[Header]) -> usize
+/// The bytes of the headers, up to [`usize::MAX`].
+pub(crate) fn headers_width(headers: &[Header]) -> usize
     ensures { result ≡ min (sum_by header_width headers.now) (2 ^ 64 - 1) }
 {
     let mut width: usize = 0;

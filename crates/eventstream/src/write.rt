@@ -8,18 +8,16 @@ ghost use Rattle.eventstream.specs.Write.{Writes, WritesSummed};
 
 use crate::error::{Error, ErrorKind};
 use crate::kind;
+use crate::size_hint::headers_width;
 use mac_core::{Crc, crc32};
 use smithy_core::{Header, HeaderValue, Mem, Message};
-use std::alloc::Global;
+use std::alloc::{AllocError, Global};
 
 /// The most bytes of a header's name.
 pub(crate) const MOST_HEADER_NAME: usize = 255;
 
 /// The most bytes of a header's byte array or text.
 const MOST_VALUE: usize = 32_767;
-
-/// The bytes that the headers of a usual message take, those of a signed one among them.
-const HEADERS_ROOM: usize = 128;
 
 /// The most bytes of a frame: 16 MiB, as the services have it.
 pub(crate) const MOST_FRAME: usize = 16_777_216;
@@ -41,7 +39,7 @@ pub(crate) const LEAST_FRAME: usize = 16;
 /// [`ErrorKind::InvalidHeaderNameLength`], [`ErrorKind::HeaderValueTooLong`] or
 /// [`ErrorKind::TimestampValueTooLarge`]. A refused call appends nothing.
 pub fn write_headers_to(
-    alloc: Global,
+    _alloc: Global,
     headers: &[Header],
     buffer: &mut Vec<u8>,
 ) -> Result<(), Error>
@@ -50,9 +48,9 @@ pub fn write_headers_to(
     if let Err(kind) = test_headers(headers) {
         return Err(Error::from(kind));
     }
-    let mut spelled = Vec::new(alloc);
-    push_headers(&mut spelled, headers)?;
-    buffer.extend_from_slice(spelled.as_slice())?;
+    let len = block_len(headers)?;
+    buffer.reserve(len)?;
+    push_headers(buffer, headers);
     Ok(())
 }
 
@@ -80,7 +78,7 @@ pub fn write_message_to(alloc: Global, message: &Message, buffer: &mut Vec<u8>) 
 /// Those of [`write_message_to`].
 #[tactic(auto, unfolding(crate::specs::Frame::frame, crate::specs::Frame::unframed))]
 pub fn write_summed_message_to(
-    alloc: Global,
+    _alloc: Global,
     message: &Message,
     buffer: &mut Vec<u8>,
 ) -> Result<Crc, Error>
@@ -89,13 +87,12 @@ pub fn write_summed_message_to(
     if let Err(kind) = test_headers(message.headers()) {
         return Err(Error::from(kind));
     }
-    let mut headers = Vec::new(alloc);
-    push_headers(&mut headers, message.headers())?;
-    if let Err(kind) = test_lengths(headers.len(), message.payload().len()) {
+    let headers = block_len(message.headers())?;
+    if let Err(kind) = test_lengths(headers, message.payload().len()) {
         return Err(Error::from(kind));
     }
-    buffer.reserve(LEAST_FRAME + headers.len() + message.payload().len())?;
-    Ok(push_frame(buffer, headers.as_slice(), message))
+    buffer.reserve(LEAST_FRAME + headers + message.payload().len())?;
+    Ok(push_frame(buffer, headers, message))
 }
 
 /// The frame of a message, which has to have one: where that isn't known, [`write_message_to`] answers why there is none.
@@ -104,11 +101,10 @@ pub fn frame_of(alloc: Global, message: &Message) -> Mem<Vec<u8>>
     requires { unframed message.now ≡ None }
     ensures { IfOk result (λ bytes. bytes.items ≡ frame message.now) }
 {
-    let mut headers = Vec::new(alloc);
-    push_headers(&mut headers, message.headers())?;
-    let len = LEAST_FRAME + headers.len() + message.payload().len();
+    let headers = block_len(message.headers())?;
+    let len = LEAST_FRAME + headers + message.payload().len();
     let mut frame = Vec::with_capacity(alloc, len)?;
-    let _checksum = push_frame(&mut frame, headers.as_slice(), message);
+    let _checksum = push_frame(&mut frame, headers, message);
     Ok(frame)
 }
 
@@ -178,44 +174,55 @@ fn test_lengths(headers: usize, payload: usize) -> Result<(), ErrorKind>
     Ok(())
 }
 
-fn push_headers(buffer: &mut Vec<u8>, headers: &[Header]) -> Mem<()>
+// The bytes of the header block, where the headers have spellings. Memory has no room for more than `usize` counts.
+#[tactic(auto, using(crate::proofs::SizeHintLemmas::length_block))]
+fn block_len(headers: &[Header]) -> Mem<usize>
     requires { first_unspelled headers.now ≡ None }
-    ensures { OnOk result (buffer.new.items ≡ buffer.old.items ++ block headers.now) }
+    ensures { IfOk result (λ len. len ≡ length (block headers.now)) }
 {
-    reserve_headers(buffer, headers)?;
+    let len = headers_width(headers);
+    if len == usize::MAX {
+        return Err(AllocError);
+    }
+    Ok(len)
+}
+
+// The spellings of the headers, where there is room for them.
+fn push_headers(buffer: &mut Vec<u8>, headers: &[Header])
+    requires spelled { first_unspelled headers.now ≡ None }
+    requires room { vec_len buffer.old + length (block headers.now) ≤ vec_capacity buffer.old }
+    ensures items { buffer.new.items ≡ buffer.old.items ++ block headers.now }
+    ensures len { vec_len buffer.new ≡ vec_len buffer.old + length (block headers.now) }
+    ensures capacity { vec_capacity buffer.old ≤ vec_capacity buffer.new }
+{
     for header in headers {
-        push_header(buffer, header)?;
+        push_header(buffer, header);
     }
-    Ok(())
 }
 
-// Makes room for the headers of a usual message, so that the buffer seldom grows as they come.
-fn reserve_headers(buffer: &mut Vec<u8>, headers: &[Header]) -> Mem<()>
-    ensures { buffer.new.items ≡ buffer.old.items }
-{
-    if headers.is_empty() {
-        return Ok(());
-    }
-    buffer.reserve(HEADERS_ROOM)
-}
-
-fn push_header(buffer: &mut Vec<u8>, header: &Header) -> Mem<()>
-    requires { unspelled header.now ≡ None }
-    ensures { OnOk result (buffer.new.items ≡ buffer.old.items ++ spelling header.now) }
+fn push_header(buffer: &mut Vec<u8>, header: &Header)
+    requires spelled { unspelled header.now ≡ None }
+    requires room { vec_len buffer.old + length (spelling header.now) ≤ vec_capacity buffer.old }
+    ensures items { buffer.new.items ≡ buffer.old.items ++ spelling header.now }
+    ensures len { vec_len buffer.new ≡ vec_len buffer.old + length (spelling header.now) }
+    ensures capacity { vec_capacity buffer.old ≤ vec_capacity buffer.new }
 {
     let name = header.name().as_bytes();
-    push_tagged(buffer, name.len() as u8, name.as_slice())?;
-    push_value(buffer, header.value())
+    push_tagged(buffer, name.len() as u8, name.as_slice());
+    push_value(buffer, header.value());
 }
 
 #[tactic(auto, unfolding(crate::specs::Frame::value_spelling, crate::specs::Frame::unspelled_value))]
-fn push_value(buffer: &mut Vec<u8>, value: &HeaderValue) -> Mem<()>
-    requires { unspelled_value value.now ≡ None }
-    ensures { OnOk result (buffer.new.items ≡ buffer.old.items ++ value_spelling value.now) }
+fn push_value(buffer: &mut Vec<u8>, value: &HeaderValue)
+    requires spelled { unspelled_value value.now ≡ None }
+    requires room { vec_len buffer.old + length (value_spelling value.now) ≤ vec_capacity buffer.old }
+    ensures items { buffer.new.items ≡ buffer.old.items ++ value_spelling value.now }
+    ensures len { vec_len buffer.new ≡ vec_len buffer.old + length (value_spelling value.now) }
+    ensures capacity { vec_capacity buffer.old ≤ vec_capacity buffer.new }
 {
     match value {
-        HeaderValue::Bool(true) => Ok(buffer.push(kind::TRUE)?),
-        HeaderValue::Bool(false) => Ok(buffer.push(kind::FALSE)?),
+        HeaderValue::Bool(true) => push_tagged(buffer, kind::TRUE, &[]),
+        HeaderValue::Bool(false) => push_tagged(buffer, kind::FALSE, &[]),
         HeaderValue::Byte(n) => push_tagged(buffer, kind::BYTE, n.to_be_bytes().as_slice()),
         HeaderValue::Int16(n) => push_tagged(buffer, kind::INT16, n.to_be_bytes().as_slice()),
         HeaderValue::Int32(n) => push_tagged(buffer, kind::INT32, n.to_be_bytes().as_slice()),
@@ -224,43 +231,50 @@ fn push_value(buffer: &mut Vec<u8>, value: &HeaderValue) -> Mem<()>
         HeaderValue::String(text) => push_counted(buffer, kind::STRING, text.as_bytes().as_slice()),
         HeaderValue::Timestamp(moment) => {
             let millis = moment.to_millis().unwrap();
-            push_tagged(buffer, kind::TIMESTAMP, millis.to_be_bytes().as_slice())
+            push_tagged(buffer, kind::TIMESTAMP, millis.to_be_bytes().as_slice());
         }
         HeaderValue::Uuid(n) => push_tagged(buffer, kind::UUID, n.to_be_bytes().as_slice()),
     }
 }
 
 // A byte, and then these bytes.
-fn push_tagged(buffer: &mut Vec<u8>, tag: u8, bytes: &[u8]) -> Mem<()>
-    ensures { OnOk result (buffer.new.items ≡ buffer.old.items ++ tag ∷ bytes.now) }
+fn push_tagged(buffer: &mut Vec<u8>, tag: u8, bytes: &[u8])
+    requires room { vec_len buffer.old + (1 + length bytes.now) ≤ vec_capacity buffer.old }
+    ensures items { buffer.new.items ≡ buffer.old.items ++ tag ∷ bytes.now }
+    ensures len { vec_len buffer.new ≡ vec_len buffer.old + (1 + length bytes.now) }
+    ensures capacity { vec_capacity buffer.old ≤ vec_capacity buffer.new }
 {
-    buffer.push(tag)?;
-    buffer.extend_from_slice(bytes)
+    buffer.push_reserved(tag);
+    push_bytes(buffer, bytes);
 }
 
 // A byte, the number of these bytes, and then the bytes.
-fn push_counted(buffer: &mut Vec<u8>, tag: u8, bytes: &[u8]) -> Mem<()>
-    requires { length bytes.now < 65536 }
-    ensures { OnOk result (buffer.new.items ≡ buffer.old.items ++ tag ∷ to_be_bytes w16 (length bytes.now) ++ bytes.now) }
+fn push_counted(buffer: &mut Vec<u8>, tag: u8, bytes: &[u8])
+    requires few { length bytes.now < 65536 }
+    requires room { vec_len buffer.old + (3 + length bytes.now) ≤ vec_capacity buffer.old }
+    ensures items { buffer.new.items ≡ buffer.old.items ++ tag ∷ to_be_bytes w16 (length bytes.now) ++ bytes.now }
+    ensures len { vec_len buffer.new ≡ vec_len buffer.old + (3 + length bytes.now) }
+    ensures capacity { vec_capacity buffer.old ≤ vec_capacity buffer.new }
 {
-    buffer.push(tag)?;
-    buffer.extend_from_slice((bytes.len() as u16).to_be_bytes().as_slice())?;
-    buffer.extend_from_slice(bytes)
+    push_tagged(buffer, tag, (bytes.len() as u16).to_be_bytes().as_slice());
+    push_bytes(buffer, bytes);
 }
 
-// The frame of these bytes of headers and the message's payload, where there is room for it, and the checksum of its bytes.
-fn push_frame(buffer: &mut Vec<u8>, headers: &[u8], message: &Message) -> Crc
-    requires fits { least_frame + length headers.now + length message.now.payload ≤ most_frame }
-    requires room { vec_len buffer.old + (least_frame + length headers.now + length message.now.payload) ≤ vec_capacity buffer.old }
+// The frame of the message, whose header block takes so many bytes, where there is room for it, and the checksum of its bytes.
+fn push_frame(buffer: &mut Vec<u8>, headers: usize, message: &Message) -> Crc
+    requires spelled { first_unspelled message.now.headers ≡ None }
+    requires block { headers ≡ length (block message.now.headers) }
+    requires fits { least_frame + headers + length message.now.payload ≤ most_frame }
+    requires room { vec_len buffer.old + (least_frame + headers + length message.now.payload) ≤ vec_capacity buffer.old }
     ensures items { buffer.new.items ≡ buffer.old.items ++ summed (summed (frame_lengths
-        (least_frame + length headers.now + length message.now.payload) (length headers.now)) ++ headers.now ++ message.now.payload) }
+        (least_frame + headers + length message.now.payload) headers) ++ block message.now.headers ++ message.now.payload) }
     ensures checksum { result ≡ after_bytes before_any (summed (summed (frame_lengths
-        (least_frame + length headers.now + length message.now.payload) (length headers.now)) ++ headers.now ++ message.now.payload)) }
+        (least_frame + headers + length message.now.payload) headers) ++ block message.now.headers ++ message.now.payload)) }
 {
     let start = buffer.len();
-    let total = LEAST_FRAME + headers.len() + message.payload().len();
-    push_prelude(buffer, total as u32, headers.len() as u32);
-    push_bytes(buffer, headers);
+    let total = LEAST_FRAME + headers + message.payload().len();
+    push_prelude(buffer, total as u32, headers as u32);
+    push_headers(buffer, message.headers());
     push_payload(buffer, start, message)
 }
 

@@ -263,9 +263,26 @@ impl SegBuf {
         requires { n ≤ length self.now.bytes }
         ensures { IfOk result (λ front. front ≡ take n self.now.bytes) }
     {
-        let mut front = vec![in *self.pieces.allocator(); 0; n]?;
-        self.copy_into(&mut front);
+        let mut front = Vec::with_capacity(*self.pieces.allocator(), n)?;
+        self.push_front_to(n, &mut front)?;
         Ok(Bytes::from_vec(front)?)
+    }
+
+    // Appends the first `n` bytes to none.
+    fn push_front_to(&self, n: usize, front: &mut Vec<u8>) -> Result<(), AllocError>
+        requires within { n ≤ length self.now.bytes }
+        requires none { front.old.items ≡ [] }
+        ensures { OnOk result (front.new.items ≡ take n self.now.bytes) }
+    {
+        let mut taken = self.taken;
+        for piece in &self.pieces {
+            push_up_to(front, n, &piece.as_slice()[taken..])?;
+            if front.len() == n {
+                return Ok(());
+            }
+            taken = 0;
+        }
+        Ok(())
     }
 
     /// Takes the first `n` bytes, which have to be there. They are shared where they lie in the first piece, and else copied.
@@ -317,6 +334,15 @@ impl fmt::Debug for SegBuf {
         let count = self.len;
         write!(f, "SegBuf({count} bytes)")
     }
+}
+
+// Appends a prefix of the bytes, so that there are up to `most` in all.
+fn push_up_to(front: &mut Vec<u8>, most: usize, bytes: &[u8]) -> Result<(), AllocError>
+    requires { length front.old.items ≤ most }
+    ensures { OnOk result (front.new.items ≡ front.old.items ++ take (most - length front.old.items) bytes.now) }
+{
+    let count = bytes.len().min(most - front.len());
+    front.extend_from_slice(&bytes[..count])
 }
 
 // Writes a prefix of the bytes at the place, as many as there is room for, and returns how many.

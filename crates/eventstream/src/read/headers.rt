@@ -7,9 +7,20 @@ use bytes::Bytes;
 use smithy_core::Header;
 use std::alloc::Global;
 
-/// The headers of a block of so many bytes, at the front of all bytes that are there.
+/// The headers of a block of so many bytes, at the front of all bytes that are there, which only headers share.
+#[tactic(auto, unfolding(crate::specs::Read::headers_within))]
+pub fn read_block(alloc: Global, len: usize, bytes: &Bytes) -> Result<Vec<Header>, Error>
+    ensures { GivesHeaders (headers_of len bytes.now) result }
+{
+    if len == 0 {
+        return Ok(Vec::new(alloc));
+    }
+    read_headers(alloc, len, bytes.clone()?)
+}
+
+// The same, of bytes of its own.
 #[tactic(auto, using(crate::proofs::HeadersLemmas::goes_on, crate::proofs::HeadersLemmas::is_done))]
-pub fn read_headers(alloc: Global, len: usize, mut rest: Bytes) -> Result<Vec<Header>, Error>
+fn read_headers(alloc: Global, len: usize, mut rest: Bytes) -> Result<Vec<Header>, Error>
     ensures { GivesHeaders (headers_of len rest) result }
 {
     let mut headers = Vec::new(alloc);
