@@ -16,12 +16,12 @@ abbrev pub at_second : ℤ → Instant
 at_second secs = record { secs = secs; nanos = 0 }
 
 -- the lines with which the strings to sign of messages and of chunks begin
-abbrev pub payload_lines : Signer → Instant → List ℕ
-payload_lines signer t = line (codes "AWS4-HMAC-SHA256-PAYLOAD") ++ line (stamp t) ++ line (scope t signer.region signer.name)
+abbrev pub payload_lines : Instant → List ℕ → List ℕ → List ℕ
+payload_lines t region name = line (codes "AWS4-HMAC-SHA256-PAYLOAD") ++ line (stamp t) ++ line (scope t region name)
 
 -- the HMAC is that under the signing key of its second, after these lines, and the digest is that of the second's header `:date`
 pub record HashesFor (signer : Signer) (hasher : SecondHasher) : Type 0 where
-  pub begun : HoldsMac hasher.begun (key_block (signing_key signer (at_second hasher.secs))) (payload_lines signer (at_second hasher.secs))
+  pub begun : HoldsMac hasher.begun (key_block (signing_key signer (at_second hasher.secs))) (payload_lines (at_second hasher.secs) signer.region signer.name)
   pub date_digits : hasher.date_digits ≡ encode_lower (sha256 (spelling (date_header (at_second hasher.secs))))
 
 -- what is kept for a second, if any, is for who signs

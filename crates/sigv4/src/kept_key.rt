@@ -72,6 +72,7 @@ struct DayKey {
 impl Model for KeptKey {
     ghost use Rattle.std.specs.Prelude.{option_map, string_bytes};
     ghost use Rattle.smithy_core.specs.Civil.{date};
+    ghost use Rattle.eventstream.specs.Key.{Signer};
     ghost use Rattle.sigv4.specs.KeptKey.{IsKeyFor, Kept};
     ghost use Rattle.sigv4.specs.SecondHasher.{IsHasherFor};
 
@@ -84,7 +85,7 @@ impl Model for KeptKey {
     } };
 
     ghost invariant = { λ key.
-        let signer = record { secret = string_bytes key.secret; region = string_bytes key.region; name = string_bytes key.name } in
+        let signer : Signer = record { secret = string_bytes key.secret; region = string_bytes key.region; name = string_bytes key.name } in
         IsKeyFor signer key.kept × IsHasherFor signer key.second };
 }
 

@@ -8,7 +8,7 @@ ghost use Rattle.smithy_core.specs.Text.{line};
 ghost use Rattle.eventstream.specs.Frame.{spelling};
 ghost use Rattle.eventstream.specs.Key.{Signer, signing_key};
 ghost use Rattle.eventstream.specs.Link.{date_header, link_code};
-ghost use Rattle.sigv4.specs.SecondHasher.{HashesFor};
+ghost use Rattle.sigv4.specs.SecondHasher.{HashesFor, payload_lines};
 
 use crate::digest::sha256_digits;
 use crate::signature::begun_string_to_sign;
@@ -38,14 +38,10 @@ impl SecondHasher {
     ) -> Mem<SecondHasher>
         requires { IsInYears at }
         ensures secs { IfOk result (λ hasher. hasher.secs ≡ at.secs) }
-        ensures hashes { (secret : List ℕ) → let signer = record { secret = secret; region = region.now; name = name.now } in
+        ensures hashes { (secret : List ℕ) → let signer : Signer = record { secret = secret; region = region.now; name = name.now } in
             HoldsMac keyed (key_block (signing_key signer at)) [] → IfOk result (HashesFor signer) }
     {
-        let second = SigningTime::new(whole_second(at)).unwrap();
-        let stamp = second.stamp();
-        let scope = second.scope_bytes(alloc, region, name)?;
-        let algorithm = b"AWS4-HMAC-SHA256-PAYLOAD";
-        let lines = begun_string_to_sign(alloc, algorithm, stamp.as_slice(), scope.as_slice())?;
+        let lines = payload_lines(alloc, at, region, name)?;
         let mut begun = keyed;
         begun.update(lines.as_slice());
         Ok(SecondHasher {
@@ -83,6 +79,18 @@ impl SecondHasher {
         hasher.update(sha256_digits(bytes).as_slice());
         Ok(hasher.finalize())
     }
+}
+
+// The lines with which the strings to sign of a moment's second begin.
+fn payload_lines(alloc: Global, at: Moment, region: &str, name: &str) -> Mem<Vec<u8>>
+    requires { IsInYears at }
+    ensures { IfOk result (λ lines. lines.items ≡ payload_lines (floor_secs at) region.now name.now) }
+{
+    let second = SigningTime::new(whole_second(at)).unwrap();
+    let stamp = second.stamp();
+    let scope = second.scope_bytes(alloc, region, name)?;
+    let algorithm = b"AWS4-HMAC-SHA256-PAYLOAD";
+    begun_string_to_sign(alloc, algorithm, stamp.as_slice(), scope.as_slice())
 }
 
 // The digest of the spelling of the header with a moment.
