@@ -18,7 +18,7 @@ abbrev IsDayOf : Signer → Instant → DayKey → Type 0
 IsDayOf signer at day = (day.key ≡ signing_key signer at) × HoldsMac day.keyed (key_block (signing_key signer at)) []
 
 day_in : (signer : Signer) (day : DayKey) (at : Instant) → IsKeyFor signer (Some day) → bytes_eq (date day.at) (date at) ≡ true → IsDayOf signer at day
-day_in signer day at own same = subst (λ key. (day.key ≡ key) × HoldsMac day.keyed (key_block key) []) (key_of_date signer day.at at same) own.1
+day_in signer day at own same = subst (λ key. (day.key ≡ key) × HoldsMac day.keyed (key_block key) []) (key_of_date signer day.at at same) (own.1, own.2)
 
 -- the key of a date, and the HMAC under it, are those of each of its moments
 pub kept_day : (signer : Signer) (held : Option DayKey) (day : DayKey) (at : Instant) → held ≡ Some day → IsKeyFor signer held
