@@ -16,11 +16,6 @@ use Rattle.sigv4.specs.declared.params.SigningParams.{SigningParams}
 use Rattle.sigv4.specs.KeptKey.{Kept}
 use Rattle.aws_auth.specs.MessageSigner.{IsOwnKey, SignerParts, SignerState, SignsBytes, SignsClosing, SignsMessage, running_signature, signer_for, signer_in, told_by, told_of, unsigned_by, unsigned_message_by}
 
--- the key of who signs at a moment is that of parameters for both
-pub key_handed : (params : SigningParams (Unit {0})) (signer : Signer) (t : Instant) (key : List ℕ)
-    → signer_of params ≡ signer → v4_time params ≡ t → key ≡ signing_key signer t → IsKeyOf params key
-key_handed params signer t key who time is signs = is ∙ sym (λ i. signing_key (who i) (time i))
-
 -- a copy keeps a key of its own
 copied : (identity copy : Identity) (region name : List ℕ) (kept : Option Kept)
     → IsSameIdentity identity copy → IsOwnKey (signer_for identity region name) kept → IsOwnKey (signer_for copy region name) kept

@@ -8,7 +8,7 @@ use Rattle.smithy_core.specs.Moment.{Instant}
 use Rattle.smithy_core.specs.declared.identity.Identity.{Identity}
 use Rattle.smithy_core.specs.declared.identity.Identity.TheVariants.{Credentials, Token}
 use Rattle.eventstream.specs.Frame.{frame, unframed}
-use Rattle.eventstream.specs.Key.{Signer, signing_key}
+use Rattle.eventstream.specs.Key.{Signer}
 use Rattle.eventstream.specs.Link.{link_message, link_signature}
 use Rattle.eventstream.specs.Told.{Told, signs_over, untold, encoding_refusal}
 use Rattle.eventstream.specs.declared.sign_error.SignMessageError.{SignMessageError}
@@ -103,13 +103,6 @@ SignsMessage old message t result new = SignsBytes (unsigned_message_by old.part
 abbrev pub SignsClosing : {S : Type 0} → SignerState S → Instant → Option (Result Parts SignMessageError) → SignerState S → Type 0
 SignsClosing old t None new = ⊥
 SignsClosing old t (Some result) new = SignsBytes (unsigned_by old.parts.identity t) old [] t result new
-
--- with no reason against it the answer is the signing key of a moment, which is kept; else it is the reason, or memory ran out.
--- All else stays
-abbrev pub GivesKey : {S : Type 0} → SignerState S → Instant → Result (List ℕ) SignMessageError → SignerState S → Type 0
-GivesKey old t (Ok key) new =
-    (unsigned_by old.parts.identity t ≡ None) × (key ≡ signing_key (signer_in old) t) × (new ≡ record old { kept = Some (kept_at (own_key old) t) })
-GivesKey old t (Err error) new = ((unsigned_by old.parts.identity t ≡ Some error) ⊎ (error ≡ refusals.NoMemory)) × (new ≡ old)
 
 -- the signers are the same, and the settings a copy
 pub record IsSameSigner {S : Type 0} (copies : S → S → Type 0) (signer copy : SignerState S) : Type 0 where

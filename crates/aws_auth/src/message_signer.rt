@@ -1,13 +1,11 @@
 ghost use Rattle.std.specs.Prelude.{◌≡◌, IfOk, MatchResult, None, OnErr, OnOk, Some};
 ghost use Rattle.mac_core.specs.Crc.{after_bytes, before_any};
-ghost use Rattle.sigv4.specs.Params.{signer_of, v4_identity, v4_time};
 ghost use Rattle.sigv4.specs.KeptKey.{no_key};
-ghost use Rattle.aws_auth.specs.MessageSigner.{GivesKey, IsSameSigner, SignsBytes, derivations, own_key, running_signature, signer_from, signer_in, unsigned_by};
+ghost use Rattle.aws_auth.specs.MessageSigner.{IsSameSigner, SignsBytes, derivations, own_key, running_signature, signer_from, signer_in, unsigned_by};
 
 use eventstream::{SignMessage, SignMessageError, write_summed_message_to};
 use mac_core::Crc;
 use sigv4::KeptKey;
-use sigv4::event_stream::{SigningParams, sign_summed_bytes_with_key};
 use smithy_core::{Identity, Mem, Message, Moment, Region, SigningName, is_in_years};
 use std::fmt;
 use std::marker::Model;
@@ -126,21 +124,6 @@ impl<S: Clone + Drop> SigV4MessageSigner<S> {
 }
 
 impl SigV4MessageSigner<()> {
-    // The parameters of a message that is signed at a moment.
-    fn params_at(&self, now: Moment) -> SigningParams<'_>
-        ensures identity { v4_identity result ≡ self.now.parts.identity }
-        ensures signer { signer_of result ≡ signer_in self.now }
-        ensures time { v4_time result ≡ now }
-    {
-        SigningParams::new(
-            &self.identity,
-            self.region.as_str(),
-            self.name.as_str(),
-            now,
-            (),
-        )
-    }
-
     // The message of the bytes, whose signature is the last one then.
     fn sign_bytes(
         &mut self,
@@ -151,30 +134,13 @@ impl SigV4MessageSigner<()> {
         requires { checksum ≡ after_bytes before_any bytes.items }
         ensures { SignsBytes (unsigned_by self.old.parts.identity now) self.old bytes.items now result self.new }
     {
-        let key = self.key_at(now)?;
-        let alloc = *self.running_signature.allocator();
-        let params = self.params_at(now);
-        // With a key there is no refusal, so that an error is `NoMemory`.
-        let signature = self.running_signature();
-        match sign_summed_bytes_with_key(alloc, bytes, checksum, signature, &params, &key) {
-            Ok(signed) => {
-                let (message, signature) = signed.into_parts();
-                self.running_signature = signature;
-                Ok(message)
-            }
-            Err(_) => Err(SignMessageError::NoMemory),
-        }
-    }
-
-    // The signing key of a moment, which is kept for its day.
-    fn key_at(&mut self, now: Moment) -> Result<[u8; 32], SignMessageError>
-        ensures { GivesKey self.old now result self.new }
-    {
         self.test_at(now)?;
         let mut kept = self.take_key()?;
-        let key = kept.key(now);
+        let signed = kept.sign_bytes(bytes, checksum, self.running_signature(), now);
         self.kept = Some(kept);
-        Ok(key)
+        let (message, signature) = signed?.into_parts();
+        self.running_signature = signature;
+        Ok(message)
     }
 
     // Tests that the identity signs at a moment.

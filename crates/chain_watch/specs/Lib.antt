@@ -1,7 +1,6 @@
 pub mod Calls
 pub mod Chain
 pub mod ChainFault
-pub mod ChainSigner
 pub mod Frame
 pub mod Position
 pub mod Walk

@@ -1,7 +1,8 @@
 -- The signing key of a date.
-use Rattle.std.proofs.Common.{◌≡◌, ℕ, Bool, true, false, if◌then◌else◌, Option, Some, None, List, refl, ◌∙◌, sym, subst}
-use Rattle.std.specs.Prelude.{MatchOption, bytes_eq, option_map}
+use Rattle.std.proofs.Common.{◌≡◌, Bool, true, false, if◌then◌else◌, Option, Some, [], refl, subst}
+use Rattle.std.specs.Prelude.{bytes_eq, option_map}
 use Rattle.std.proofs.lemmas.Slice.Eq.{bytes_eq-Decides}
+use Rattle.mac_core.specs.Mac.{HoldsMac, key_block}
 use Rattle.smithy_core.specs.Civil.{date}
 use Rattle.smithy_core.specs.Moment.{Instant}
 use Rattle.eventstream.specs.Key.{Signer, signing_key}
@@ -13,24 +14,17 @@ key_of_date : (signer : Signer) (t u : Instant) → bytes_eq (date t) (date u) �
 unfolding signing_key
 key_of_date signer t u same = let is : date t ≡ date u = (bytes_eq-Decides (date t) (date u)).0 same in rw is refl
 
--- what is found of a key, by what it is the key for
-abbrev Finds : Signer → Option DayKey → Instant → Option (List ℕ) → Type 0
-Finds signer held at found =
-    let kept = is_kept (option_map (λ (day : DayKey). date day.at) held) at in
-    MatchOption found (kept ≡ false) (λ key. (kept ≡ true) × (key ≡ signing_key signer at))
+abbrev IsDayOf : Signer → Instant → DayKey → Type 0
+IsDayOf signer at day = (day.key ≡ signing_key signer at) × HoldsMac day.keyed (key_block (signing_key signer at)) []
 
-abbrev FindsIn : DayKey → Instant → Option (List ℕ) → Type 0
-FindsIn day at found = let kept = bytes_eq (date day.at) (date at) in MatchOption found (kept ≡ false) (λ key. (kept ≡ true) × (key ≡ day.key))
+day_in : (signer : Signer) (day : DayKey) (at : Instant) → IsKeyFor signer (Some day) → bytes_eq (date day.at) (date at) ≡ true → IsDayOf signer at day
+day_in signer day at own same = subst (λ key. (day.key ≡ key) × HoldsMac day.keyed (key_block key) []) (key_of_date signer day.at at same) (own.1, own.2)
 
-found_in : (signer : Signer) (day : DayKey) (at : Instant) (found : Option (List ℕ)) → IsKeyFor signer (Some day) → FindsIn day at found → Finds signer (Some day) at found
-found_in signer day at None own finds = finds
-found_in signer day at (Some key) own finds = (finds.0, finds.1 ∙ own.1 ∙ key_of_date signer day.at at finds.0)
-
--- the key of a date is the signing key of each of its moments
-pub found_key : (signer : Signer) (held : Option DayKey) (day : DayKey) (at : Instant) (found : Option (List ℕ)) → held ≡ Some day
-    → IsKeyFor signer held → FindsIn day at found → Finds signer held at found
-found_key signer held day at found is own finds =
-    subst (λ h. Finds signer h at found) (sym is) (found_in signer day at found (subst (λ h. IsKeyFor signer h) is own) finds)
+-- the key of a date, and the HMAC under it, are those of each of its moments
+pub kept_day : (signer : Signer) (held : Option DayKey) (day : DayKey) (at : Instant) → held ≡ Some day → IsKeyFor signer held
+    → is_kept (option_map (λ (day : DayKey). date day.at) held) at ≡ true → IsDayOf signer at day
+kept_day signer held day at is own same =
+    day_in signer day at (subst (λ h. IsKeyFor signer h) is own) (subst (λ h. is_kept (option_map (λ (day : DayKey). date day.at) h) at ≡ true) is same)
 
 -- who signs stays, whichever key is kept
 pub kept_signer : (kept : Kept) (t : Instant) → (kept_at kept t).signer ≡ kept.signer
@@ -38,3 +32,7 @@ kept_signer kept t = by (is_kept kept.date t) where
   by : (b : Bool) → (if b then kept else derived_at kept t).signer ≡ kept.signer
   by true = refl
   by false = refl
+
+-- a key that was derived is that of its moment's date
+pub derived_is_kept : (kept : Kept) (t : Instant) → is_kept (derived_at kept t).date t ≡ true
+derived_is_kept kept t = (bytes_eq-Decides (date t) (date t)).1 refl

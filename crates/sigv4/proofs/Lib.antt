@@ -17,6 +17,7 @@ pub mod PathLemmas
 pub mod QueryLemmas
 pub mod RefusalLemmas
 pub mod ScopeLemmas
+pub mod SecondHasherLemmas
 pub mod SetLemmas
 pub mod SignatureLemmas
 pub mod SignedLemmas

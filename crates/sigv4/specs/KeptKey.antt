@@ -1,6 +1,7 @@
 -- A signing key that is kept for a date.
-use Rattle.std.specs.Prelude.{◌≡◌, ℕ, Bool, false, List, ◌++◌, codes, bytes_eq, if◌then◌else◌, Option, Some, None}
+use Rattle.std.specs.Prelude.{◌≡◌, ℕ, Bool, false, List, [], ◌++◌, codes, bytes_eq, if◌then◌else◌, Option, Some, None}
 use Rattle.std.specs.Fmt.{decimal}
+use Rattle.mac_core.specs.Mac.{HoldsMac, key_block}
 use Rattle.smithy_core.specs.Calls.{one_more}
 use Rattle.smithy_core.specs.Civil.{IsInYears, date}
 use Rattle.smithy_core.specs.Moment.{Instant}
@@ -34,7 +35,7 @@ kept_at kept at = if is_kept kept.date at then kept else derived_at kept at
 abbrev pub shown_key : Kept → List ℕ
 shown_key kept = codes "KeptKey(" ++ (decimal kept.derivations ++ codes " derivations)")
 
--- what is kept is the signing key at its moment
+-- what is kept is the signing key at its moment, and the HMAC under it
 abbrev pub IsKeyFor : Signer → Option DayKey → Type 0
 IsKeyFor signer None = Unit {0}
-IsKeyFor signer (Some day) = IsInYears day.at × (day.key ≡ signing_key signer day.at)
+IsKeyFor signer (Some day) = IsInYears day.at × (day.key ≡ signing_key signer day.at) × HoldsMac day.keyed (key_block (signing_key signer day.at)) []

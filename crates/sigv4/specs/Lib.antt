@@ -18,6 +18,7 @@ pub mod Query
 pub mod Refusal
 pub mod Request
 pub mod RequestSigning
+pub mod SecondHasher
 pub mod Settings
 pub mod Signature
 pub mod Signed

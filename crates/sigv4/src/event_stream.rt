@@ -1,29 +1,26 @@
 //! Signed messages of an event stream: each is signed over the signature before it.
 
 ghost use Rattle.std.specs.Prelude.{◌≡◌, ◌⊎◌, [], ◌∷◌, codes, IfOk, None, Some, MatchResult, option_map};
-ghost use Rattle.sha2.specs.Sha256.{sha256};
 ghost use Rattle.hex.specs.Hex.{encode_lower};
 ghost use Rattle.mac_core.specs.Crc.{after_bytes, before_any};
 ghost use Rattle.smithy_core.specs.Civil.{IsInYears};
 ghost use Rattle.smithy_core.specs.Moment.{floor_secs};
-ghost use Rattle.eventstream.specs.Frame.{frame, spelling, unframed};
-ghost use Rattle.eventstream.specs.Link.{date_header, link_code, message_string_to_sign};
+ghost use Rattle.eventstream.specs.Frame.{frame, unframed};
+ghost use Rattle.eventstream.specs.Link.{date_header, link_code};
 ghost use Rattle.sigv4.specs.Output.{output_signature, signed_output};
 ghost use Rattle.sigv4.specs.Params.{signer_of, v4_identity, v4_time};
 ghost use Rattle.sigv4.specs.EventStream.{IsKeyOf, Links, failed_encoding, message_refusal, unsignable};
 
 use crate::credentials::credentials_of;
-use crate::digest::sha256_digits;
 use crate::error::SigningError;
 use crate::key::signing_key_of;
 use crate::output::SigningOutput;
-use crate::signature::begun_string_to_sign;
-use crate::signing_time::SigningTime;
+use crate::second_hasher::{SecondHasher, date_header};
 use bytes::Bytes;
-use eventstream::{ErrorKind, write_headers_to, write_summed_message_to};
-use mac_core::{Crc, hmac_sha256};
-use smithy_core::{Header, HeaderValue, Mem, Message, Moment, StrBytes, push_line};
-use std::alloc::{AllocError, Global};
+use eventstream::write_summed_message_to;
+use mac_core::{Crc, HmacSha256};
+use smithy_core::{Header, HeaderValue, Mem, Message, Moment, StrBytes, is_in_years};
+use std::alloc::Global;
 
 /// The parameters of a signed message, which have no settings.
 pub type SigningParams<'a> = crate::v4::SigningParams<'a, ()>;
@@ -173,9 +170,7 @@ pub fn sign_summed_bytes_with_key(
         params.now last_signature.now bytes.items result }
 {
     let signed = sign_bytes_with_key(alloc, bytes, last_signature, params, key)?;
-    let (message, signature) = signed.into_parts();
-    let message = message.with_checksums(Crc::new(), checksum);
-    Ok(SigningOutput::new(message, signature))
+    Ok(summed(signed, checksum))
 }
 
 /// The HMAC that [`sign_bytes_with_key`] signs the bytes of a frame with, alone. The SDK has no such public call.
@@ -199,9 +194,10 @@ pub fn link_code_with_key(
         × (code ≡ link_code (signer_of params.now) last_signature.now bytes.now (v4_time params.now)))
         (λ error. (unsignable (v4_identity params.now) (v4_time params.now) ≡ Some error) ⊎ (error ≡ SigningError.NoMemory)) }
 {
-    let time = signing_second(params)?;
-    let text = string_to_sign(alloc, bytes, last_signature, params, &time)?;
-    Ok(hmac_sha256(key.as_slice(), text.as_slice()))
+    let at = signing_moment(params)?;
+    let keyed = HmacSha256::new(key.as_slice());
+    let hasher = SecondHasher::new(alloc, keyed, at, params.region(), params.name())?;
+    Ok(hasher.link_code(bytes, last_signature)?)
 }
 
 // The bytes of a frame, and the checksum that took them alone.
@@ -222,27 +218,28 @@ fn framed(alloc: Global, message: &Message) -> Result<SummedFrame, SigningError>
     Ok(SummedFrame { bytes, checksum })
 }
 
-// The whole second of the parameters, or why their identity doesn't sign at their moment.
-fn signing_second(params: &SigningParams<'_>) -> Result<SigningTime, SigningError>
+// The moment of the parameters, or why their identity doesn't sign at it.
+fn signing_moment(params: &SigningParams<'_>) -> Result<Moment, SigningError>
     ensures { MatchResult result
-        (λ time. (unsignable (v4_identity params.now) (v4_time params.now) ≡ None) × IsInYears (v4_time params.now) × (time ≡ floor_secs (v4_time params.now)))
+        (λ at. (unsignable (v4_identity params.now) (v4_time params.now) ≡ None) × IsInYears at × (at ≡ v4_time params.now))
         (λ error. unsignable (v4_identity params.now) (v4_time params.now) ≡ Some error) }
 {
     let _credentials = credentials_of(params.identity())?;
-    SigningTime::new(whole_second(params.time())).ok_or(SigningError::MomentOutOfRange(
-        params.time(),
-    ))
+    let at = params.time();
+    if is_in_years(at) {
+        Ok(at)
+    } else {
+        Err(SigningError::MomentOutOfRange(at))
+    }
 }
 
-// The moment without its nanoseconds.
-fn whole_second(time: Moment) -> Moment
-    ensures { result ≡ floor_secs time }
-{
-    Moment::new(time.secs(), 0)
-}
-
-// The message of bytes that were signed with this HMAC, and the HMAC as a signature.
-fn link(alloc: Global, bytes: Vec<u8>, time: Moment, code: &[u8]) -> Mem<SigningOutput<Message>>
+/// The message of bytes that were signed with this HMAC, and the HMAC as a signature.
+pub(crate) fn link(
+    alloc: Global,
+    bytes: Vec<u8>,
+    time: Moment,
+    code: &[u8],
+) -> Mem<SigningOutput<Message>>
     ensures message { IfOk result (λ output. signed_output output ≡ record {
       headers = record { name = codes ":chunk-signature"; value = HeaderValue.ByteArray code.now } ∷ date_header (floor_secs time) ∷ [];
       payload = bytes.items;
@@ -257,56 +254,15 @@ fn link(alloc: Global, bytes: Vec<u8>, time: Moment, code: &[u8]) -> Mem<Signing
     Ok(SigningOutput::new(message, signature))
 }
 
-// The string to sign of bytes over the signature before them, where the time is that of the parameters.
-#[tactic(auto, unfolding(eventstream::specs::Link::message_string_to_sign))]
-fn string_to_sign(
-    alloc: Global,
-    bytes: &[u8],
-    last_signature: &str,
-    params: &SigningParams<'_>,
-    time: &SigningTime,
-) -> Mem<Vec<u8>>
-    requires in_years { IsInYears (v4_time params.now) }
-    requires time { time.now ≡ floor_secs (v4_time params.now) }
-    ensures { IfOk result (λ text. text.items ≡ message_string_to_sign (signer_of params.now) last_signature.now bytes.now time.now) }
+/// The signed message, of whose payload the checksum is known from now on.
+pub(crate) fn summed(signed: SigningOutput<Message>, checksum: Crc) -> SigningOutput<Message>
+    requires { checksum ≡ after_bytes before_any (signed_output signed).payload }
+    ensures message { signed_output result ≡ signed_output signed }
+    ensures signature { output_signature result ≡ output_signature signed }
 {
-    let stamp = time.stamp();
-    let scope = time.scope_bytes(alloc, params.region(), params.name())?;
-    let date_digest = date_digest(alloc, params.time())?;
-    let digest = sha256_digits(bytes);
-    let algorithm = b"AWS4-HMAC-SHA256-PAYLOAD";
-    let mut text = begun_string_to_sign(alloc, algorithm, stamp.as_slice(), scope.as_slice())?;
-    push_line(&mut text, last_signature.as_bytes())?;
-    push_line(&mut text, date_digest.as_slice())?;
-    text.extend_from_slice(digest.as_slice())?;
-    Ok(text)
-}
-
-// The digest of the spelling of the header with a moment.
-#[tactic(auto, using(eventstream::proofs::LinkLemmas::date_spelled))]
-fn date_digest(alloc: Global, time: Moment) -> Mem<[u8; 64]>
-    requires { IsInYears time }
-    ensures { IfOk result (λ digits. digits ≡ encode_lower (sha256 (spelling (date_header (floor_secs time))))) }
-{
-    let headers = [date_header(time)];
-    let mut spelled = Vec::with_capacity(alloc, 15)?;
-    match write_headers_to(alloc, headers.as_slice(), &mut spelled) {
-        Ok(()) => Ok(sha256_digits(spelled.as_slice())),
-        Err(error) => match error.kind() {
-            ErrorKind::NoMemory => Err(AllocError),
-            _ => unreachable!(),
-        },
-    }
-}
-
-// The header with a moment, without its nanoseconds.
-fn date_header(time: Moment) -> Header
-    ensures { result ≡ date_header (floor_secs time) }
-{
-    Header::new(
-        StrBytes::from_static(":date"),
-        HeaderValue::Timestamp(whole_second(time)),
-    )
+    let (message, signature) = signed.into_parts();
+    let message = message.with_checksums(Crc::new(), checksum);
+    SigningOutput::new(message, signature)
 }
 
 fn code_header(alloc: Global, code: &[u8]) -> Mem<Header>

@@ -1,24 +1,33 @@
-ghost use Rattle.std.specs.Prelude.{◌≡◌, bytes_eq, false, true, IfOk, MatchOption, string_bytes};
-ghost use Rattle.smithy_core.specs.Civil.{IsInYears, date};
+ghost use Rattle.std.specs.Prelude.{◌≡◌, [], true, IfOk, string_bytes};
+ghost use Rattle.mac_core.specs.Crc.{after_bytes, before_any};
+ghost use Rattle.mac_core.specs.Mac.{HoldsMac, key_block};
+ghost use Rattle.smithy_core.specs.Civil.{IsInYears};
 ghost use Rattle.eventstream.specs.Key.{signing_key};
+ghost use Rattle.eventstream.specs.Link.{link_code, link_message, link_signature};
 ghost use Rattle.sigv4.specs.KeptKey.{derived_at, is_kept, kept_at, no_key};
+ghost use Rattle.sigv4.specs.Output.{output_signature, signed_output};
+ghost use Rattle.sigv4.specs.SecondHasher.{HashesFor};
 
+use crate::event_stream::{link, summed};
 use crate::key::generate_signing_key;
-use smithy_core::{Mem, Moment, is_same_day};
+use crate::output::SigningOutput;
+use crate::second_hasher::SecondHasher;
+use mac_core::{Crc, HmacSha256};
+use smithy_core::{Mem, Message, Moment, is_same_day};
 use std::fmt;
 use std::marker::Model;
 
 /// A signing key that is kept for the day that it holds for, and the number of keys that were derived.
 ///
-/// Deriving a key takes four HMACs, which is as long as the rest of the signing of a small message.
+/// Deriving a key takes four HMACs, which is as long as the rest of the signing of a small message. What the messages of one
+/// second have in common is hashed once, too: the pads of the HMAC, the first lines of the string to sign, and the header `:date`.
 ///
 /// ```rust
 /// let mut kept = KeptKey::new(secret, region, name);
 /// for event in events {
-///     let at = clock.now();
-///     let key = kept.key(at);
-///     let params = SigningParams::new(&identity, "us-east-1", "transcribe", at, ());
-///     let signed = sign_message_with_key(alloc, event, signature.as_str(), &params, &key)?;
+///     let mut bytes = Vec::new(alloc);
+///     let checksum = write_summed_message_to(alloc, event, &mut bytes)?;
+///     let signed = kept.sign_bytes(bytes, checksum, signature.as_str(), clock.now())?;
 ///     ..
 /// }
 /// ```
@@ -29,6 +38,7 @@ pub struct KeptKey {
     region: String,
     name: String,
     kept: Option<DayKey>,
+    second: Option<SecondHasher>,
     derivations: u64,
 }
 
@@ -39,26 +49,32 @@ impl Drop for KeptKey {
             secret,
             region,
             name,
-            kept: _,
+            kept,
+            second,
             derivations: _,
         } = self;
         drop(secret);
         drop(region);
         drop(name);
+        drop(kept);
+        drop(second);
     }
 }
 
-// The signing key of a moment, which is that of each moment of its day.
-#[derive(Clone, Copy)]
+// The signing key of a moment, which is that of each moment of its day, and an HMAC under it with no text.
+#[derive(Drop)]
 struct DayKey {
     at: Moment,
     key: [u8; 32],
+    keyed: HmacSha256,
 }
 
 impl Model for KeptKey {
     ghost use Rattle.std.specs.Prelude.{option_map, string_bytes};
     ghost use Rattle.smithy_core.specs.Civil.{date};
+    ghost use Rattle.eventstream.specs.Key.{Signer};
     ghost use Rattle.sigv4.specs.KeptKey.{IsKeyFor, Kept};
+    ghost use Rattle.sigv4.specs.SecondHasher.{IsHasherFor};
 
     ghost Value = { Kept };
 
@@ -68,7 +84,9 @@ impl Model for KeptKey {
       derivations = key.derivations;
     } };
 
-    ghost invariant = { λ key. IsKeyFor (record { secret = string_bytes key.secret; region = string_bytes key.region; name = string_bytes key.name }) key.kept };
+    ghost invariant = { λ key.
+        let signer : Signer = record { secret = string_bytes key.secret; region = string_bytes key.region; name = string_bytes key.name } in
+        IsKeyFor signer key.kept × IsHasherFor signer key.second };
 }
 
 impl KeptKey {
@@ -81,6 +99,7 @@ impl KeptKey {
             region,
             name,
             kept: None,
+            second: None,
             derivations: 0,
         }
     }
@@ -93,10 +112,46 @@ impl KeptKey {
         ensures key { result ≡ signing_key self.old.signer at }
         ensures kept { self.new ≡ kept_at self.old at }
     {
-        match self.kept_for(at) {
-            Some(key) => key,
-            None => self.derive(at),
-        }
+        self.keep(at);
+        self.day(at).key
+    }
+
+    /// Signs the bytes of a frame over the signature before them: a message with these bytes as its payload, and the new
+    /// signature. The SDK has no such call.
+    ///
+    /// The moment has to lie in the years 0 to 9999, and the checksum has to be the one that took the bytes alone, as
+    /// [`write_summed_message_to`](eventstream::write_summed_message_to) answers it.
+    pub fn sign_bytes(
+        &mut self,
+        bytes: Vec<u8>,
+        checksum: Crc,
+        last_signature: &str,
+        at: Moment,
+    ) -> Mem<SigningOutput<Message>>
+        requires in_years { IsInYears at }
+        requires checksum { checksum ≡ after_bytes before_any bytes.items }
+        ensures message { IfOk result (λ output. signed_output output ≡ link_message self.old.signer last_signature.now bytes.items at) }
+        ensures signature { IfOk result (λ output. output_signature output ≡ link_signature self.old.signer last_signature.now bytes.items at) }
+        ensures kept { self.new ≡ kept_at self.old at }
+    {
+        let code = self.link_code(bytes.as_slice(), last_signature, at)?;
+        let signed = link(*self.region.allocator(), bytes, at, code.as_slice())?;
+        Ok(summed(signed, checksum))
+    }
+
+    /// The HMAC that [`KeptKey::sign_bytes`] signs the bytes of a frame with, alone. The SDK has no such call.
+    ///
+    /// The moment has to lie in the years 0 to 9999.
+    pub fn link_code(&mut self, bytes: &[u8], last_signature: &str, at: Moment) -> Mem<[u8; 32]>
+        requires { IsInYears at }
+        ensures code { IfOk result (λ code. code ≡ link_code self.old.signer last_signature.now bytes.now at) }
+        ensures kept { self.new ≡ kept_at self.old at }
+    {
+        self.keep(at);
+        let second = self.take_second(at)?;
+        let code = second.link_code(bytes, last_signature)?;
+        self.second = Some(second);
+        Ok(code)
     }
 
     /// How many keys were derived and kept. The number saturates. That [`KeptKey::key`] derives no other key beside them isn't
@@ -115,53 +170,107 @@ impl KeptKey {
             secret: self.secret.clone()?,
             region: self.region.clone()?,
             name: self.name.clone()?,
-            kept: self.kept,
+            kept: day_copy(&self.kept)?,
+            second: None,
             derivations: self.derivations,
         })
     }
 
-    // The kept key, where it is that of the moment's date.
-    fn kept_for(&self, at: Moment) -> Option<[u8; 32]>
+    // Derives the key of a moment, where none is kept for its date.
+    fn keep(&mut self, at: Moment)
         requires { IsInYears at }
-        ensures { MatchOption result
-            (is_kept self.now.date at ≡ false)
-            (λ key. (is_kept self.now.date at ≡ true) × (key ≡ signing_key self.now.signer at)) }
+        ensures kept { self.new ≡ kept_at self.old at }
+        ensures is_kept { is_kept self.new.date at ≡ true }
     {
-        match self.kept {
-            Some(kept) => kept.key_at(at),
-            None => None,
+        if !self.is_kept(at) {
+            self.derive(at);
         }
     }
 
-    // The key of the moment, derived and kept.
-    fn derive(&mut self, at: Moment) -> [u8; 32]
+    // Whether the kept key is that of the moment's date.
+    fn is_kept(&self, at: Moment) -> bool
         requires { IsInYears at }
-        ensures key { result ≡ signing_key self.old.signer at }
-        ensures kept { self.new ≡ derived_at self.old at }
+        ensures { result ≡ is_kept self.now.date at }
+    {
+        match &self.kept {
+            Some(day) => is_same_day(day.at, at),
+            None => false,
+        }
+    }
+
+    // Derives the key of the moment, and keeps it.
+    fn derive(&mut self, at: Moment)
+        requires { IsInYears at }
+        ensures { self.new ≡ derived_at self.old at }
     {
         let (region, name) = (self.region.as_str(), self.name.as_str());
         let key = generate_signing_key(self.secret.as_str(), at, region, name);
-        self.kept = Some(DayKey { at, key });
+        let keyed = HmacSha256::new(key.as_slice());
+        self.kept = Some(DayKey { at, key, keyed });
         self.derivations = self.derivations.saturating_add(1);
-        key
+    }
+
+    // The kept key, which is that of the moment's date.
+    fn day(&self, at: Moment) -> &DayKey
+        requires { is_kept self.now.date at ≡ true }
+        ensures key { result.now.key ≡ signing_key self.now.signer at }
+        ensures keyed { HoldsMac result.now.keyed (key_block (signing_key self.now.signer at)) [] }
+    {
+        match &self.kept {
+            Some(day) => day,
+            None => unreachable!(),
+        }
+    }
+
+    // What the links of the moment's second are hashed with, which is taken out where it is kept.
+    fn take_second(&mut self, at: Moment) -> Mem<SecondHasher>
+        requires in_years { IsInYears at }
+        requires kept { is_kept self.old.date at ≡ true }
+        ensures secs { IfOk result (λ second. second.secs ≡ at.secs) }
+        ensures hashes { IfOk result (HashesFor self.old.signer) }
+        ensures same { self.new ≡ self.old }
+    {
+        if let Some(second) = self.second.take() {
+            if second.is_of(at) {
+                return Ok(second);
+            }
+        }
+        self.new_second(at)
+    }
+
+    // What the links of the moment's second are hashed with, made anew.
+    fn new_second(&self, at: Moment) -> Mem<SecondHasher>
+        requires in_years { IsInYears at }
+        requires kept { is_kept self.now.date at ≡ true }
+        ensures secs { IfOk result (λ second. second.secs ≡ at.secs) }
+        ensures hashes { IfOk result (HashesFor self.now.signer) }
+    {
+        let keyed = self.day(at).keyed.clone()?;
+        let (region, name) = (self.region.as_str(), self.name.as_str());
+        SecondHasher::new(*self.region.allocator(), keyed, at, region, name)
     }
 }
 
 impl DayKey {
-    // The key, where it is that of the moment's date.
-    fn key_at(self, at: Moment) -> Option<[u8; 32]>
-        requires own { IsInYears self.at }
-        requires other { IsInYears at }
-        ensures { MatchOption result
-            (bytes_eq (date self.at) (date at) ≡ false)
-            (λ key. (bytes_eq (date self.at) (date at) ≡ true) × (key ≡ self.key)) }
+    // The same key.
+    fn try_clone(&self) -> Mem<DayKey>
+        ensures { IfOk result (λ copy. copy ≡ self.now) }
     {
-        if is_same_day(self.at, at) {
-            Some(self.key)
-        } else {
-            None
-        }
+        Ok(DayKey {
+            at: self.at,
+            key: self.key,
+            keyed: self.keyed.clone()?,
+        })
     }
+}
+
+fn day_copy(kept: &Option<DayKey>) -> Mem<Option<DayKey>>
+    ensures { IfOk result (λ copy. copy ≡ kept.now) }
+{
+    Ok(match kept {
+        Some(day) => Some(day.try_clone()?),
+        None => None,
+    })
 }
 
 // Shows neither the secret nor the key.

@@ -46,6 +46,7 @@ mod path;
 mod refusal;
 mod request;
 mod request_signing;
+mod second_hasher;
 mod settings;
 mod signature;
 mod signed;

@@ -21,6 +21,7 @@ pub fn answer(alloc: Global, call: &str, words: &[&str]) -> Mem<String> {
     match (call, words) {
         ("sign" | "debug", parts) => signing::answer(alloc, call, parts),
         ("keys", parts) => kept_keys::keys(alloc, parts),
+        ("links", parts) => kept_keys::links(alloc, parts),
         ("messages", parts) => kept_keys::messages(alloc, parts),
         ("copy", [kind, words @ ..]) => copies::answer(alloc, kind, words),
         ("fault", ["OverrideError", name]) => {

@@ -31,6 +31,32 @@ fn push_key(alloc: Global, told: &mut String, kept: &mut KeptKey, at: Moment) ->
     write!(told, "{key} ")
 }
 
+/// The codes of links without bytes at the moments of `at SECONDS ..`, each over the code before it, and how many keys were derived.
+pub fn links(alloc: Global, parts: &[&str]) -> Mem<String> {
+    let mut kept = kept_of(alloc, parts)?;
+    links_told(alloc, &mut kept, part(parts, "at").unwrap_or(""))
+}
+
+fn links_told(alloc: Global, kept: &mut KeptKey, moments: &str) -> Mem<String> {
+    let mut told = String::new(alloc);
+    let mut last = String::new(alloc);
+    for seconds in moments.split(' ') {
+        last = next_link(alloc, kept, last.as_str(), Moment::new(number(seconds), 0))?;
+        write!(told, "{last} ")?;
+    }
+    write!(told, "derived {}", kept.derivations())?;
+    Ok(told)
+}
+
+// The code of a link at a moment that has one, or else the last one.
+fn next_link(alloc: Global, kept: &mut KeptKey, last: &str, at: Moment) -> Mem<String> {
+    if civil(at).is_none() {
+        return String::from_str(alloc, last);
+    }
+    let code = kept.link_code(b"", last, at)?;
+    hex::encode(alloc, code.as_slice())
+}
+
 // A key of `secret S`, or else that of AWS's examples, for `region R` and `name N`.
 fn kept_of(alloc: Global, parts: &[&str]) -> Mem<KeptKey> {
     let secret = part(parts, "secret").unwrap_or("wJalrXUtnFEMI/K7MDENG+bPxRfiCYEXAMPLEKEY");
