@@ -15,7 +15,7 @@ use crate::form::Form;
 use crate::status::StreamFault;
 use aws_auth::SigV4MessageSigner;
 use event_io::take_moment;
-use eventstream::{ErrorKind, SignMessage, SignMessageError, write_message_to};
+use eventstream::{ErrorKind, SignMessage, SignMessageError, write_summed_message_to};
 use smithy_core::{ByteSink, Clock, Mem, Message, Moment, SinkError, write_all};
 use std::alloc::{AllocError, Global};
 use std::collections::VecDeque;
@@ -104,8 +104,8 @@ fn put_frame(
     ensures { PutsFrame place message.now frame.new.items result }
 {
     frame.clear();
-    match write_message_to(alloc, message, frame) {
-        Ok(()) => Ok(()),
+    match write_summed_message_to(alloc, message, frame) {
+        Ok(_) => Ok(()),
         Err(error) => Err(fault_at(place, error.kind())),
     }
 }
