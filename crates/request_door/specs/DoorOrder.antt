@@ -13,6 +13,6 @@ NoneMet meets [] = Unit {0}
 NoneMet meets (test ∷ tests) = (meets test → ⊥) × NoneMet meets tests
 
 -- none of the tests is met, or the first of them that is decides
-abbrev pub Passes : (DoorFault → Type 0) → List DoorFault → Result (Unit {0}) DoorFault → Type 0
-Passes meets tests (Ok _) = NoneMet meets tests
-Passes meets tests (Err fault) = IsFirstMet meets tests fault
+abbrev pub PassesTests : (DoorFault → Type 0) → List DoorFault → Result (Unit {0}) DoorFault → Type 0
+PassesTests meets tests (Ok _) = NoneMet meets tests
+PassesTests meets tests (Err fault) = IsFirstMet meets tests fault

@@ -5,7 +5,7 @@ ghost use Rattle.std.specs.List.{list_all, list_any};
 ghost use Rattle.sigv4.specs.Canonical.{excluded_token};
 ghost use Rattle.request_check.specs.Recomputed.{carried_names};
 ghost use Rattle.request_door.specs.DoorNames.{MeetsName, PassesNames, are_ordered_after, is_owed, is_signed_as_owed, is_there, name_tests, name_texts, is_text_before, unsigned_by_right};
-ghost use Rattle.request_door.specs.DoorOrder.{Passes};
+ghost use Rattle.request_door.specs.DoorOrder.{PassesTests};
 
 use crate::carried::has_header;
 use crate::fault::DoorFault;
@@ -50,7 +50,7 @@ fn test_listed(
     limits: &Limits,
     names: &[&str],
 ) -> Result<(), DoorFault>
-    ensures { Passes (MeetsName place mode limits.now headers.now (name_texts names.now)) name_tests result }
+    ensures { PassesTests (MeetsName place mode limits.now headers.now (name_texts names.now)) name_tests result }
 {
     if names.len() > limits.names {
         return Err(DoorFault::TooManyNames);
