@@ -1,5 +1,5 @@
 //! Settings, of profile files and variables.
-ghost use Rattle.std.specs.Prelude.{◌≡◌, None, Result, IfOk, Ok};
+ghost use Rattle.std.specs.Prelude.{◌≡◌, None, Result, IfOk, Ok, string_bytes};
 ghost use Rattle.env_config.specs.ParseFault.{faulty_line_of};
 ghost use Rattle.aws_settings.specs.Choice.{lack_in, profile_name, settings_seen};
 ghost use Rattle.firuvaik_c.specs.Selecting.{AppendsText, LendsSelection, SelectsLent, TellsSettings, lack_or_memory, line_fault};
@@ -118,13 +118,14 @@ fn line_fault(error: &EnvConfigParseError) -> Fault
 fn found_in(alloc: Global, settings: &AwsSettings, env: &Env) -> Mem<FoundSettings>
     ensures { IfOk result (λ found. TellsSettings found.text.items found.selection (settings_seen settings.now) (profile_name None env.now)) }
 {
+    let name = name_of_profile(alloc, env)?;
     let keys = &settings.credentials;
     let mut text = Vec::new(alloc);
     let key_id = push_text(&mut text, keys.access_key_id())?;
     let secret = push_text(&mut text, keys.secret_access_key())?;
     let token = push_text(&mut text, keys.session_token().unwrap_or(""))?;
     let region = push_text(&mut text, settings.region.as_str())?;
-    let profile = push_text(&mut text, profile_name(None, env))?;
+    let profile = push_text(&mut text, name.as_str())?;
     Ok(FoundSettings {
         text,
         selection: Selection {
@@ -135,6 +136,13 @@ fn found_in(alloc: Global, settings: &AwsSettings, env: &Env) -> Mem<FoundSettin
             profile,
         },
     })
+}
+
+// The name of the profile that the variables select.
+fn name_of_profile(alloc: Global, env: &Env) -> Mem<String>
+    ensures { IfOk result (λ name. string_bytes name ≡ profile_name None env.now) }
+{
+    String::from_str(alloc, profile_name(None, env))
 }
 
 // Appends a text, and tells where it stands.
