@@ -1,9 +1,10 @@
 #!/usr/bin/env python3
 """Runs the built programs on cases that a reference model makes up, with its answers, in batches with seeds of their own; each case
-runs on each compiler's program. A file has a line for each batch that is done, so that a later call goes on behind the last one of
-the same programs. A line for each case that differs; then how often the cases of all batches met each exit, each refusal and each
-failed test; and then a line of counts. The status is 1 where a case differs.
-  campaigns/model.py MODEL [--cases N] [--seconds N] [--done FILE]    until N cases (1000000) or N seconds (600) are over
+runs on each compiler's program. A file has a line for each batch that is done, so that a later call goes on with the first seed that
+the same programs haven't had. A line for each case that differs; then how often the cases of all batches met each exit, each refusal
+and each failed test; and then a line of counts. The status is 1 where a case differs.
+  campaigns/model.py MODEL [--cases N] [--seconds N] [--done FILE] [--first SEED] [--jobs N]
+                                        until N cases (1000000) or N seconds (600) are over, from a seed on (1), N batches at a time (1)
   campaigns/model.py MODEL --lines N    the lines of the model that no one of N cases ran, and so no case can have compared
 
 MODEL is the folder of a package of Python with that model, which this repository doesn't hold. `cases(SEED, COUNT)` of its module
@@ -13,7 +14,9 @@ One with `needs` or a fault of its own is left out, since no real program can be
 """
 import argparse
 import collections
+import concurrent.futures
 import hashlib
+import itertools
 import importlib
 import json
 import os
@@ -22,6 +25,7 @@ import sys
 import tempfile
 import time
 import trace
+from concurrent.futures import FIRST_COMPLETED
 
 import runs
 from runs import Ended
@@ -46,7 +50,6 @@ EXITS = {
 BEGINNINGS = ("def ", "class ", '"', "import ", "from ", "@")
 # The most lines that are printed for cases that differ.
 MOST_LINES = 20
-runner = runs.Runner()
 
 
 class Makers:
@@ -54,7 +57,8 @@ class Makers:
 
     def __init__(self, folder):
         folder = os.path.abspath(folder)
-        sys.path.insert(0, os.path.dirname(folder))
+        if os.path.dirname(folder) not in sys.path:
+            sys.path.insert(0, os.path.dirname(folder))
         self.folder = folder
         self.first, self.second = (importlib.import_module(f"{os.path.basename(folder)}.{name}") for name in ("gen_cases", "gen_cases_b"))
 
@@ -85,7 +89,7 @@ def clear():
             os.unlink(name)
 
 
-def compared(program, case, done):
+def compared(runner, program, case, done):
     """Runs each compiler's program on a case."""
     expect = case["expect"]
     wanted = Ended(expect["status"], bytes.fromhex(expect["stdout_hex"]), bytes.fromhex(expect["stderr_hex"]))
@@ -108,19 +112,41 @@ def met_by(program, wanted):
     return f"{program} {wanted.status} {name}".strip()
 
 
-def batch(makers, seed, end):
-    """A batch, or nothing where the time is over before its end."""
+def batch(model, seed, end):
+    """A batch, run in a folder of its own, or nothing where the time is over before its end."""
     done = {"seed": seed, "cases": 0, "left out": 0, "runs": 0, "differ": 0, "met": collections.Counter()}
-    for program, kinds, count in BATCH:
-        for case in makers.cases(kinds, seed, count):
-            if time.monotonic() > end:
-                return None
-            if can_run(case):
-                done["cases"] += 1
-                compared(program, case, done)
-            else:
-                done["left out"] += 1
+    makers, runner = Makers(model), runs.Runner()
+    with tempfile.TemporaryDirectory() as folder:
+        os.chdir(folder)
+        try:
+            for program, kinds, count in BATCH:
+                for case in makers.cases(kinds, seed, count):
+                    if time.monotonic() > end:
+                        return None
+                    if can_run(case):
+                        done["cases"] += 1
+                        compared(runner, program, case, done)
+                    else:
+                        done["left out"] += 1
+        finally:
+            os.chdir("/")
+            runner.close()
     return done
+
+
+def batches(model, seeds, given, end, done):
+    """Runs batches, as many at a time as are asked for, and yields each, until there are enough cases or the time is over. The caller
+    puts each to those that are done."""
+    running = set()
+    with concurrent.futures.ProcessPoolExecutor(given.jobs) as pool:
+        while True:
+            is_enough = sum(it["cases"] for it in done) >= given.cases or time.monotonic() > end
+            while not is_enough and len(running) < given.jobs:
+                running.add(pool.submit(batch, model, next(seeds), end))
+            if not running:
+                return
+            ended, running = concurrent.futures.wait(running, return_when=FIRST_COMPLETED)
+            yield from (it.result() for it in ended if it.result())
 
 
 def programs():
@@ -187,26 +213,23 @@ def main():
     parser.add_argument("--cases", type=int, default=1_000_000)
     parser.add_argument("--seconds", type=float, default=600)
     parser.add_argument("--done", default=os.path.join(runs.HERE, "out", "model.jsonl"))
+    parser.add_argument("--first", type=int, default=1)
+    parser.add_argument("--jobs", type=int, default=1)
     parser.add_argument("--lines", type=int)
     given = parser.parse_args()
-    makers = Makers(given.model)
     if given.lines:
-        return run_lines(makers, given.lines)
+        return run_lines(Makers(given.model), given.lines)
     by, sums, end = runs.makers("model.py", EXITS), programs(), time.monotonic() + given.seconds
     path = os.path.abspath(given.done)
     os.makedirs(os.path.dirname(path), exist_ok=True)
     done = kept(path, sums)
-    with tempfile.TemporaryDirectory() as folder:
-        os.chdir(folder)
-        while sum(it["cases"] for it in done) < given.cases:
-            it = batch(makers, 1 + max([it["seed"] for it in done], default=0), end)
-            if it is None:
-                break
-            it["programs"] = sums
-            done.append(it)
-            with open(path, "a", encoding="utf-8") as file:
-                file.write(json.dumps(it) + "\n")
-        os.chdir("/")
+    had = {it["seed"] for it in done}
+    seeds = (seed for seed in itertools.count(given.first) if seed not in had)
+    for it in batches(os.path.abspath(given.model), seeds, given, end, done):
+        it["programs"] = sums
+        done.append(it)
+        with open(path, "a", encoding="utf-8") as file:
+            file.write(json.dumps(it) + "\n")
     return tell(done, by)
 
 

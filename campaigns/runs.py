@@ -204,6 +204,10 @@ class Runner:
     def __init__(self):
         self.input, self.out, self.err = (os.memfd_create(name) for name in ("input", "out", "err"))
 
+    def close(self):
+        for place in (self.input, self.out, self.err):
+            os.close(place)
+
     def run(self, path, words, env, data, told=None):
         """How a run of the program at the path ends. `told` is a descriptor that it gets as its number 3."""
         for place, content in ((self.input, data), (self.out, b""), (self.err, b"")):
