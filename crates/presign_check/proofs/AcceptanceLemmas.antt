@@ -21,7 +21,7 @@ use Rattle.request_check.proofs.SealLemmas.{absent}
 use Rattle.presign_check.specs.Acceptance.{AcceptsSigned, IsAcceptedUntil, IsPresignedAs}
 use Rattle.presign_check.specs.Parameters.{PresignTexts, StandOnce}
 use Rattle.presign_check.specs.Presigned.{PresignInput, ChecksPresigned, HasTerms, MeetsFirst, Reading, own_signature, unfit_reading}
-use Rattle.presign_check.specs.Terms.{PresignTerms, TellTerms, until_of}
+use Rattle.presign_check.specs.Terms.{PresignTerms, ParametersState, until_of}
 use Rattle.presign_check.specs.declared.fault.PresignFault.{PresignFault}
 use Rattle.presign_check.proofs.ParameterLemmas.{all_pass, one_texts}
 use Rattle.presign_check.proofs.PresignedCaseLemmas.{own_texts, stand_once, tells_own, terms_of}
@@ -64,28 +64,28 @@ module _ (asked : PresignInput) (c : Case) (seconds : ℕ) (is : IsPresignedAs a
   once : (uri : Uri) → SpellsTarget (string_bytes asked.request.target) uri → StandOnce (decoded (target_of uri)) (own_texts c)
   once uri spelled = subst (λ (t : Target). StandOnce (decoded t) (own_texts c)) (sym (target_is uri spelled)) own_once
 
-  -- ---- what they tell
+  -- ---- what they state
 
   abbrev own_terms : PresignTerms
   own_terms = terms_of c seconds
 
-  own_told : TellTerms c.signer.region c.signer.name (own_texts c) own_terms
+  own_told : ParametersState c.signer.region c.signer.name (own_texts c) own_terms
   own_told = tells_own c signs seconds is.expiry
 
-  told : TellTerms asked.signer.region asked.signer.name (own_texts c) own_terms
-  told = subst (λ (signer : Signer). TellTerms signer.region signer.name (own_texts c) own_terms) is.signer own_told
+  stated : ParametersState asked.signer.region asked.signer.name (own_texts c) own_terms
+  stated = subst (λ (signer : Signer). ParametersState signer.region signer.name (own_texts c) own_terms) is.signer own_told
 
   texts_are : (uri : Uri) (texts : PresignTexts) → SpellsTarget (string_bytes asked.request.target) uri → StandOnce (decoded (target_of uri)) texts → texts ≡ own_texts c
   texts_are uri texts spelled stands = one_texts (decoded (target_of uri)) texts (own_texts c) stands (once uri spelled)
 
   told_again : (uri : Uri) (texts : PresignTexts) → SpellsTarget (string_bytes asked.request.target) uri → StandOnce (decoded (target_of uri)) texts
-      → TellTerms asked.signer.region asked.signer.name texts own_terms
+      → ParametersState asked.signer.region asked.signer.name texts own_terms
   told_again uri texts spelled stands =
-      subst (λ (t : PresignTexts). TellTerms asked.signer.region asked.signer.name t own_terms) (sym (texts_are uri texts spelled stands)) told
+      subst (λ (t : PresignTexts). ParametersState asked.signer.region asked.signer.name t own_terms) (sym (texts_are uri texts spelled stands)) stated
 
   terms_are : (reading : Reading) → HasTerms asked.request asked.signer reading → reading.terms ≡ own_terms
   terms_are reading has =
-      one_terms asked.signer.region asked.signer.name reading.texts reading.terms own_terms has.told
+      one_terms asked.signer.region asked.signer.name reading.texts reading.terms own_terms has.stated
       (told_again reading.uri reading.texts has.whole.by_query.spelled has.whole.once)
 
   -- ---- its signature

@@ -14,7 +14,7 @@ use Rattle.sigv4.specs.declared.settings.SignatureLocation.TheVariants.{QueryPar
 use Rattle.presign_check.specs.OneAnswer.{HasOneAnswer, IsSameAnswer, IsSameTest}
 use Rattle.presign_check.specs.Parameters.{PresignTexts, StandOnce, all_parts, first_count_fault}
 use Rattle.presign_check.specs.Presigned.{ChecksPresigned, HasParameters, HasTerms, HoldsBoth, IsByQuery, IsInTime, IsOfKey, MeetsCount, MeetsEarly, MeetsFirst, MeetsForged, MeetsForm, MeetsHeader, MeetsKey, MeetsLate, MeetsNone, MeetsUnfit, MeetsUnspelled, PresignInput, Reading, own_signature, unfit_reading}
-use Rattle.presign_check.specs.Terms.{IsFirstBad, PresignTerms, TellTerms, formed_parts, until_of}
+use Rattle.presign_check.specs.Terms.{IsFirstBad, PresignTerms, ParametersState, formed_parts, until_of}
 use Rattle.presign_check.specs.declared.fault.PresignFault.{PresignFault}
 use Rattle.presign_check.specs.declared.fault.PresignFault.TheVariants.{BadPart, Expired, HeaderForm, Mismatch, Missing, NoMemory, Repeated, Signing, TooEarly, UnknownKey}
 use Rattle.presign_check.specs.declared.part.PresignPart.{PresignPart}
@@ -66,7 +66,7 @@ module _ (request : HttpRequest) where
     terms : a.terms ≡ b.terms
     terms =
         one_terms signer.region signer.name b.texts a.terms b.terms
-        (subst (λ (t : PresignTexts). TellTerms signer.region signer.name t a.terms) texts p.told) q.told
+        (subst (λ (t : PresignTexts). ParametersState signer.region signer.name t a.terms) texts p.stated) q.stated
 
 -- ---- a test isn't met by what passed it
 
@@ -85,8 +85,8 @@ module _ (asked : PresignInput) where
   no_form : (fault : PresignFault) (reading : Reading) → MeetsForm asked fault → HasTerms asked.request asked.signer reading → ⊥
   no_form fault reading meets passed =
       in_form asked.signer.region asked.signer.name meets.1 reading.terms fault
-      (subst (λ (t : PresignTexts). TellTerms asked.signer.region asked.signer.name t reading.terms)
-      (same_texts asked.request reading.uri meets.0 reading.texts meets.1 passed.whole meets.2) passed.told) meets.3
+      (subst (λ (t : PresignTexts). ParametersState asked.signer.region asked.signer.name t reading.terms)
+      (same_texts asked.request reading.uri meets.0 reading.texts meets.1 passed.whole meets.2) passed.stated) meets.3
 
   no_key : (fault : PresignFault) (reading : Reading) → MeetsKey asked fault → IsOfKey asked reading → ⊥
   no_key fault reading meets passed =

@@ -68,7 +68,7 @@ passes asked reading until has timed genuine = (reading, in_time asked reading u
 
 -- ---- what was read
 
--- the reading of a target, of its parameters and of what these tell
+-- the reading of a target, of its parameters and of what these state
 abbrev pub reading_of : Uri → Parameters → Terms → Reading
 reading_of uri parameters terms = record { uri = uri; texts = texts_read parameters; terms = terms_read terms }
 
@@ -79,5 +79,5 @@ has_once uri pairs parameters same stand = subst (λ (all : List Pair). StandOnc
 pub has_read : (request : HttpRequest) (signer : Signer) (uri : Uri) (pairs : List Pair) (parameters : Parameters) (terms : Terms) → IsByQuery request uri
     → pairs ≡ decoded (target_of uri) → FindsParameters pairs (Ok parameters) → ReadsTerms signer.region signer.name (texts_read parameters) (Ok terms)
     → HasTerms request signer (reading_of uri parameters terms)
-has_read request signer uri pairs parameters terms by_query same stand told =
-    record { whole = record { by_query = by_query; once = has_once uri pairs parameters same stand }; told = told }
+has_read request signer uri pairs parameters terms by_query same stand stated =
+    record { whole = record { by_query = by_query; once = has_once uri pairs parameters same stand }; stated = stated }

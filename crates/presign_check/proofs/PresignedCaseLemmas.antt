@@ -13,7 +13,7 @@ use Rattle.request_check.proofs.HeaderLineLemmas.{flipped}
 use Rattle.request_check.proofs.NamesLemmas.{signature_digits}
 use Rattle.request_check.proofs.QueryFormLemmas as query
 use Rattle.presign_check.specs.Parameters.{PresignTexts, StandOnce}
-use Rattle.presign_check.specs.Terms.{PresignTerms, TellTerms}
+use Rattle.presign_check.specs.Terms.{PresignTerms, ParametersState}
 
 -- ---- a name among pairs
 
@@ -44,7 +44,7 @@ own_texts c = record {
   signature = signature_of c;
 }
 
--- what they tell
+-- what they state
 abbrev pub terms_of : Case → ℕ → PresignTerms
 terms_of c seconds = record { key_id = c.key_id; at = floor_secs c.at; seconds = seconds }
 
@@ -76,7 +76,7 @@ module _ (c : Case) (signs : query.SignsQuery c) where
     signature = added_is (codes "X-Amz-Signature") (λ other key. key.signature) ∙ with_front _ _ (token_none (codes "X-Amz-Signature") free.not_signature);
   }
 
-  pub tells_own : (seconds : ℕ) → c.settings.expires_in ≡ Some seconds → TellTerms c.signer.region c.signer.name (own_texts c) (terms_of c seconds)
+  pub tells_own : (seconds : ℕ) → c.settings.expires_in ≡ Some seconds → ParametersState c.signer.region c.signer.name (own_texts c) (terms_of c seconds)
   unfolding own_texts stamp civil_of
   tells_own seconds expiry = record {
     algorithm = refl;

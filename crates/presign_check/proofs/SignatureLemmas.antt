@@ -39,19 +39,19 @@ sealed request signer reading has =
     let pairs = decoded (target_of reading.uri) in
     let once = has.whole.once in
     let texts = reading.texts in
-    let told = has.told in (
+    let stated = has.stated in (
       unsealed_bare request.headers signer.region signer.name has.whole.by_query.unauthorized,
       (
         reading.uri,
         has.whole.by_query.spelled.0,
         record {
-          moment = told.moment;
-          digits = told.signature;
-          date = first_of_one pairs (codes "X-Amz-Date") texts.date once.date ∙ ap (λ (t : List ℕ). Some t) (sym told.date);
-          credential = first_of_one pairs (codes "X-Amz-Credential") texts.credential once.credential ∙ ap (λ (t : List ℕ). Some t) told.credential;
+          moment = stated.moment;
+          digits = stated.signature;
+          date = first_of_one pairs (codes "X-Amz-Date") texts.date once.date ∙ ap (λ (t : List ℕ). Some t) (sym stated.date);
+          credential = first_of_one pairs (codes "X-Amz-Credential") texts.credential once.credential ∙ ap (λ (t : List ℕ). Some t) stated.credential;
           names = first_of_one pairs (codes "X-Amz-SignedHeaders") texts.names once.names;
           signature = first_of_one pairs (codes "X-Amz-Signature") texts.signature once.signature;
-          expires = ap (option_and_then spelled_seconds) (first_of_one pairs (codes "X-Amz-Expires") texts.expires once.expires) ∙ told.expires;
+          expires = ap (option_and_then spelled_seconds) (first_of_one pairs (codes "X-Amz-Expires") texts.expires once.expires) ∙ stated.expires;
         },
       ),
     )

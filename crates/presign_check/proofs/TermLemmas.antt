@@ -12,7 +12,7 @@ use Rattle.request_check.specs.Stamped.{ReadsStamp}
 use Rattle.request_check.proofs.SealLemmas.{absent}
 use Rattle.request_check.proofs.StampLemmas.{stamped_once}
 use Rattle.presign_check.specs.Parameters.{PresignTexts}
-use Rattle.presign_check.specs.Terms.{IsBad, IsFirstBad, IsOutOfForm, PresignTerms, ReadsTerms, TellTerms, algorithm_name, formed_parts}
+use Rattle.presign_check.specs.Terms.{IsBad, IsFirstBad, IsOutOfForm, PresignTerms, ReadsTerms, ParametersState, algorithm_name, formed_parts}
 use Rattle.presign_check.specs.declared.fault.PresignFault.{PresignFault}
 use Rattle.presign_check.specs.declared.fault.PresignFault.TheVariants.{BadPart}
 use Rattle.presign_check.specs.declared.part.PresignPart.{PresignPart}
@@ -102,15 +102,15 @@ pub ruleset bad = (bad_algorithm, bad_date, bad_credential, bad_expires, bad_sig
 
 -- ---- one reading of the texts
 
--- none of the parameters that tell something is outside its form
-none_bad : (region name : List ℕ) (texts : PresignTexts) (terms : PresignTerms) → TellTerms region name texts terms → (part : PresignPart)
+-- none of the parameters that state something is outside its form
+none_bad : (region name : List ℕ) (texts : PresignTexts) (terms : PresignTerms) → ParametersState region name texts terms → (part : PresignPart)
     → IsBad region name texts part → ⊥
-none_bad region name texts terms told Algorithm bad = good_algorithm region name texts told.algorithm bad
-none_bad region name texts terms told Date bad = good_date region name texts terms.at (told.moment, told.date) bad
-none_bad region name texts terms told Credential bad = good_credential region name texts terms.at terms.key_id (told.moment, told.date) told.credential bad
-none_bad region name texts terms told Expires bad = good_expires region name texts terms.seconds told.expires bad
-none_bad region name texts terms told Signature bad = good_signature region name texts told.signature bad
-none_bad region name texts terms told SignedHeaders bad = bad
+none_bad region name texts terms stated Algorithm bad = good_algorithm region name texts stated.algorithm bad
+none_bad region name texts terms stated Date bad = good_date region name texts terms.at (stated.moment, stated.date) bad
+none_bad region name texts terms stated Credential bad = good_credential region name texts terms.at terms.key_id (stated.moment, stated.date) stated.credential bad
+none_bad region name texts terms stated Expires bad = good_expires region name texts terms.seconds stated.expires bad
+none_bad region name texts terms stated Signature bad = good_signature region name texts stated.signature bad
+none_bad region name texts terms stated SignedHeaders bad = bad
 
 no_first : (region name : List ℕ) (texts : PresignTexts) (parts : List PresignPart) (part : PresignPart) → ((next : PresignPart) → IsBad region name texts next → ⊥)
     → IsFirstBad region name texts parts part → ⊥
@@ -118,14 +118,14 @@ no_first region name texts [] part none first = first
 no_first region name texts (next ∷ parts) part none (inl (is, same)) = none next is
 no_first region name texts (next ∷ parts) part none (inr (isnt, first)) = no_first region name texts parts part none first
 
-pub in_form : (region name : List ℕ) (texts : PresignTexts) (terms : PresignTerms) (fault : PresignFault) → TellTerms region name texts terms
+pub in_form : (region name : List ℕ) (texts : PresignTexts) (terms : PresignTerms) (fault : PresignFault) → ParametersState region name texts terms
     → IsOutOfForm region name texts fault → ⊥
-in_form region name texts terms fault told bad = no_first region name texts formed_parts bad.0 (none_bad region name texts terms told) bad.1
+in_form region name texts terms fault stated bad = no_first region name texts formed_parts bad.0 (none_bad region name texts terms stated) bad.1
 
 some_same : (a b : ℕ) → Some a ≡ Some b → a ≡ b
 some_same a b e = cc
 
-pub one_terms : (region name : List ℕ) (texts : PresignTexts) (a b : PresignTerms) → TellTerms region name texts a → TellTerms region name texts b → a ≡ b
+pub one_terms : (region name : List ℕ) (texts : PresignTexts) (a b : PresignTerms) → ParametersState region name texts a → ParametersState region name texts b → a ≡ b
 one_terms region name texts a b p q =
     let at : a.at ≡ b.at = stamped_once a.at b.at p.moment q.moment (p.date ∙ sym q.date) in
     let credential : a.key_id ++ codes "/" ++ scope b.at region name ≡ b.key_id ++ codes "/" ++ scope b.at region name =

@@ -15,7 +15,7 @@ use Rattle.sigv4.specs.declared.settings.SignatureLocation.TheVariants.{QueryPar
 use Rattle.request_check.specs.Recomputed.{recomputed, unfit_sent}
 use Rattle.request_check.specs.Sealed.{SealParts}
 use Rattle.presign_check.specs.Parameters.{PresignTexts, StandOnce, all_parts, first_count_fault}
-use Rattle.presign_check.specs.Terms.{IsEarly, IsGood, IsLate, IsOutOfForm, IsUnknown, PresignTerms, TellTerms, until_of}
+use Rattle.presign_check.specs.Terms.{IsEarly, IsGood, IsLate, IsOutOfForm, IsUnknown, PresignTerms, ParametersState, until_of}
 use Rattle.presign_check.specs.declared.fault.PresignFault.{PresignFault}
 use Rattle.presign_check.specs.declared.fault.PresignFault.TheVariants.{HeaderForm, Mismatch, NoMemory, Signing}
 
@@ -28,7 +28,7 @@ pub record PresignInput : Type 0 where
   pub key_id : List ℕ
   pub now : Instant
 
--- what a presigned request is read as: its target, the parameters there, and what these tell
+-- what a presigned request is read as: its target, the parameters there, and what these state
 pub record Reading : Type 0 where
   pub uri : Uri
   pub texts : PresignTexts
@@ -49,7 +49,7 @@ pub record HasParameters (request : HttpRequest) (uri : Uri) (texts : PresignTex
 -- and they are in their forms
 pub record HasTerms (request : HttpRequest) (signer : Signer) (reading : Reading) : Type 0 where
   pub whole : HasParameters request reading.uri reading.texts
-  pub told : TellTerms signer.region signer.name reading.texts reading.terms
+  pub stated : ParametersState signer.region signer.name reading.texts reading.terms
 
 -- the request has such a reading
 pub record IsPresigned (request : HttpRequest) (signer : Signer) : Type 0 where

@@ -1,4 +1,4 @@
--- What the parameters of a presigned target tell, and when they are outside their forms.
+-- What the parameters of a presigned target state, and when they are outside their forms.
 use Rattle.std.specs.Prelude.{◌≡◌, ◌≢◌, ◌⊎◌, ℕ, false, true, List, [], ◌∷◌, ◌++◌, codes, Some, None, Result, Ok, Err, ℤ, pos, ◌+ℤ◌, ◌≤ℤ◌, ◌<ℤ◌}
 use Rattle.smithy_core.specs.Civil.{stamp}
 use Rattle.smithy_core.specs.Moment.{Instant}
@@ -18,7 +18,7 @@ use Rattle.presign_check.specs.declared.terms.Terms.{Terms}
 abbrev pub algorithm_name : List ℕ
 algorithm_name = codes "AWS4-HMAC-SHA256"
 
--- what the parameters tell: the key's id, the moment of signing, and for how many seconds the target is good
+-- what the parameters state: the key's id, the moment of signing, and for how many seconds the target is good
 pub record PresignTerms : Type 0 where
   pub key_id : List ℕ
   pub at : Instant
@@ -28,9 +28,9 @@ pub record PresignTerms : Type 0 where
 abbrev pub until_of : PresignTerms → ℤ
 until_of terms = terms.at.secs +ℤ pos terms.seconds
 
--- the parameters are in their forms, and tell this: the date is the stamp of the moment, and the credential ends with the scope of this moment, of the
+-- the parameters are in their forms, and state this: the date is the stamp of the moment, and the credential ends with the scope of this moment, of the
 -- region and of the name
-pub record TellTerms (region name : List ℕ) (texts : PresignTexts) (terms : PresignTerms) : Type 0 where
+pub record ParametersState (region name : List ℕ) (texts : PresignTexts) (terms : PresignTerms) : Type 0 where
   pub algorithm : texts.algorithm ≡ algorithm_name
   pub moment : IsWholeSecond terms.at
   pub date : stamp terms.at ≡ texts.date
@@ -66,9 +66,9 @@ IsOutOfForm region name texts fault = (part : PresignPart) × IsFirstBad region 
 abbrev pub terms_read : Terms → PresignTerms
 terms_read read = record { key_id = read.key_id.now; at = read.at; seconds = read.seconds }
 
--- what the parameters tell, or the first that is outside its form
+-- what the parameters state, or the first that is outside its form
 abbrev pub ReadsTerms : List ℕ → List ℕ → PresignTexts → Result Terms PresignFault → Type 0
-ReadsTerms region name texts (Ok read) = TellTerms region name texts (terms_read read)
+ReadsTerms region name texts (Ok read) = ParametersState region name texts (terms_read read)
 ReadsTerms region name texts (Err fault) = IsOutOfForm region name texts fault ⊎ (fault ≡ NoMemory)
 
 -- the key is another one

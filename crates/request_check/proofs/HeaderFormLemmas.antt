@@ -110,8 +110,8 @@ inserted_all settings date text (Some payload) None headers = refl
 inserted_all settings date text (Some payload) (Some token) headers = refl
 
 module _ (c : Case) (is : SignsHeaders c) where
-  abbrev told : Option (List ℕ)
-  told = header_payload c.settings.payload_checksum_kind c.payload
+  abbrev digits : Option (List ℕ)
+  digits = header_payload c.settings.payload_checksum_kind c.payload
 
   abbrev token_name : List ℕ
   token_name = token_header c.settings
@@ -128,12 +128,12 @@ module _ (c : Case) (is : SignsHeaders c) where
   abbrev dated : List Pair
   dated = inserted (inserted c.headers (codes "x-amz-date") (stamp c.at)) (codes "authorization") (authorization c)
 
-  sent_are : signed_headers c ≡ with_optional token_name c.token (with_optional (codes "x-amz-content-sha256") told dated)
+  sent_are : signed_headers c ≡ with_optional token_name c.token (with_optional (codes "x-amz-content-sha256") digits dated)
   unfolding signed_headers instructions
   sent_are =
       ap (with_instructions c.headers) (otherwise (is_query_form c.settings) [] _ is.form)
-      ∙ inserted_all c.settings (stamp c.at) (authorization c) told c.token c.headers
-      ∙ ap (λ (name : List ℕ). with_optional name c.token (with_optional (codes "x-amz-content-sha256") told dated)) own.is_lower
+      ∙ inserted_all c.settings (stamp c.at) (authorization c) digits c.token c.headers
+      ∙ ap (λ (name : List ℕ). with_optional name c.token (with_optional (codes "x-amz-content-sha256") digits dated)) own.is_lower
 
   dated_lower : AreLower dated
   dated_lower = lower_inserted (codes "authorization") (authorization c) (inserted c.headers (codes "x-amz-date") (stamp c.at)) refl
@@ -151,16 +151,16 @@ module _ (c : Case) (is : SignsHeaders c) where
       (given_inserted (codes "x-amz-date") (stamp c.at) c.headers refl is.lower
       ∙ ap (inserted (given_headers c.headers) (codes "x-amz-date")) (stamp_trimmed c.at))
 
-  given_are : given_headers (signed_headers c) ≡ with_optional token_name c.token (with_optional (codes "x-amz-content-sha256") told dated_given)
+  given_are : given_headers (signed_headers c) ≡ with_optional token_name c.token (with_optional (codes "x-amz-content-sha256") digits dated_given)
   given_are =
       ap given_headers sent_are
-      ∙ given_optional token_name c.token (with_optional (codes "x-amz-content-sha256") told dated) own.is_lower
-      (lower_optional (codes "x-amz-content-sha256") told dated refl dated_lower) is.token
+      ∙ given_optional token_name c.token (with_optional (codes "x-amz-content-sha256") digits dated) own.is_lower
+      (lower_optional (codes "x-amz-content-sha256") digits dated refl dated_lower) is.token
       ∙ ap (with_optional token_name c.token)
-      (given_optional (codes "x-amz-content-sha256") told dated refl dated_lower is.payload ∙ ap (with_optional (codes "x-amz-content-sha256") told) dated_given_are)
+      (given_optional (codes "x-amz-content-sha256") digits dated refl dated_lower is.payload ∙ ap (with_optional (codes "x-amz-content-sha256") digits) dated_given_are)
 
   canonical_are : canonical_headers c
-      ≡ with_optional (codes "x-amz-content-sha256") told (with_optional token_name c.token (inserted (hosted_headers c.target c.headers) (codes "x-amz-date") (stamp c.at)))
+      ≡ with_optional (codes "x-amz-content-sha256") digits (with_optional token_name c.token (inserted (hosted_headers c.target c.headers) (codes "x-amz-date") (stamp c.at)))
   unfolding canonical_headers
   canonical_are = otherwise (is_query_form c.settings) _ _ is.form
 
@@ -169,8 +169,8 @@ module _ (c : Case) (is : SignsHeaders c) where
   host_first : first_value (given_headers (signed_headers c)) (codes "host") ≡ first_value (given_headers c.headers) (codes "host")
   host_first =
       ap (λ (headers : List Pair). first_value headers (codes "host")) given_are
-      ∙ first_optional_other token_name c.token (codes "host") own.not_host (with_optional (codes "x-amz-content-sha256") told dated_given)
-      ∙ first_optional_other (codes "x-amz-content-sha256") told (codes "host") refl dated_given
+      ∙ first_optional_other token_name c.token (codes "host") own.not_host (with_optional (codes "x-amz-content-sha256") digits dated_given)
+      ∙ first_optional_other (codes "x-amz-content-sha256") digits (codes "host") refl dated_given
       ∙ first_inserted_other (codes "authorization") (trim_all (authorization c)) (codes "host") refl (inserted (given_headers c.headers) (codes "x-amz-date") (stamp c.at))
       ∙ first_inserted_other (codes "x-amz-date") (stamp c.at) (codes "host") refl (given_headers c.headers)
 
@@ -192,19 +192,19 @@ module _ (c : Case) (is : SignsHeaders c) where
       ∙ ap (λ (value : Option (List ℕ)). layer h value (named_values (given_headers (signed_headers c)) name)) host_same
       ∙ ap (layer h host) (
       ap (λ (headers : List Pair). named_values headers name) given_are
-      ∙ layered token_name c.token (with_optional (codes "x-amz-content-sha256") told dated_given) name
-      ∙ ap (layer t c.token) (layered (codes "x-amz-content-sha256") told dated_given name
-      ∙ ap (layer p told) (layered (codes "authorization") (Some (trim_all (authorization c))) (inserted (given_headers c.headers) (codes "x-amz-date") (stamp c.at)) name
+      ∙ layered token_name c.token (with_optional (codes "x-amz-content-sha256") digits dated_given) name
+      ∙ ap (layer t c.token) (layered (codes "x-amz-content-sha256") digits dated_given name
+      ∙ ap (layer p digits) (layered (codes "authorization") (Some (trim_all (authorization c))) (inserted (given_headers c.headers) (codes "x-amz-date") (stamp c.at)) name
       ∙ ap (λ (b : Bool). layer b (Some (trim_all (authorization c))) (named_values (inserted (given_headers c.headers) (codes "x-amz-date") (stamp c.at)) name)) other
       ∙ layered (codes "x-amz-date") (Some (stamp c.at)) (given_headers c.headers) name)))
-      ∙ swapped h t host c.token (layer p told (layer d (Some (stamp c.at)) base)) (two_names (codes "host") token_name name (flipped (codes "host") token_name ∙ own.not_host))
-      ∙ ap (layer t c.token) (swapped h p host told (layer d (Some (stamp c.at)) base) (two_names (codes "host") (codes "x-amz-content-sha256") name refl))
-      ∙ ap (λ (values : List (List ℕ)). layer t c.token (layer p told values)) (swapped h d host (Some (stamp c.at)) base (two_names (codes "host") (codes "x-amz-date") name refl))
-      ∙ swapped t p c.token told (layer d (Some (stamp c.at)) (layer h host base)) (two_names token_name (codes "x-amz-content-sha256") name own.not_payload)
+      ∙ swapped h t host c.token (layer p digits (layer d (Some (stamp c.at)) base)) (two_names (codes "host") token_name name (flipped (codes "host") token_name ∙ own.not_host))
+      ∙ ap (layer t c.token) (swapped h p host digits (layer d (Some (stamp c.at)) base) (two_names (codes "host") (codes "x-amz-content-sha256") name refl))
+      ∙ ap (λ (values : List (List ℕ)). layer t c.token (layer p digits values)) (swapped h d host (Some (stamp c.at)) base (two_names (codes "host") (codes "x-amz-date") name refl))
+      ∙ swapped t p c.token digits (layer d (Some (stamp c.at)) (layer h host base)) (two_names token_name (codes "x-amz-content-sha256") name own.not_payload)
       ∙ sym (
       ap (λ (headers : List Pair). named_values headers name) canonical_are
-      ∙ layered (codes "x-amz-content-sha256") told (with_optional token_name c.token (inserted (hosted_headers c.target c.headers) (codes "x-amz-date") (stamp c.at))) name
-      ∙ ap (layer p told) (layered token_name c.token (inserted (hosted_headers c.target c.headers) (codes "x-amz-date") (stamp c.at)) name
+      ∙ layered (codes "x-amz-content-sha256") digits (with_optional token_name c.token (inserted (hosted_headers c.target c.headers) (codes "x-amz-date") (stamp c.at))) name
+      ∙ ap (layer p digits) (layered token_name c.token (inserted (hosted_headers c.target c.headers) (codes "x-amz-date") (stamp c.at)) name
       ∙ ap (layer t c.token) (layered (codes "x-amz-date") (Some (stamp c.at)) (hosted_headers c.target c.headers) name
       ∙ ap (layer d (Some (stamp c.at))) (layered (codes "host") host (given_headers c.headers) name))))
 
@@ -216,7 +216,7 @@ module _ (c : Case) (is : SignsHeaders c) where
 
   pub all_named : AreNamed (canonical_headers c)
   all_named = subst AreNamed (sym canonical_are)
-      (named_optional (codes "x-amz-content-sha256") told (with_optional token_name c.token (inserted (hosted_headers c.target c.headers) (codes "x-amz-date") (stamp c.at))) refl
+      (named_optional (codes "x-amz-content-sha256") digits (with_optional token_name c.token (inserted (hosted_headers c.target c.headers) (codes "x-amz-date") (stamp c.at))) refl
       (named_optional token_name c.token (inserted (hosted_headers c.target c.headers) (codes "x-amz-date") (stamp c.at)) own.is_fit
       (named_optional (codes "x-amz-date") (Some (stamp c.at)) (hosted_headers c.target c.headers) refl
       (named_optional (codes "host") (added_host c.target c.headers) (given_headers c.headers) refl
@@ -241,8 +241,8 @@ module _ (c : Case) (is : SignsHeaders c) where
   date_among =
       among_from c (codes "x-amz-date") date_signed
       (ap is_here (ap (λ (headers : List Pair). named_values headers (codes "x-amz-date")) canonical_are
-      ∙ layered (codes "x-amz-content-sha256") told (with_optional token_name c.token (inserted (hosted_headers c.target c.headers) (codes "x-amz-date") (stamp c.at))) (codes "x-amz-date")
-      ∙ kept_values told
+      ∙ layered (codes "x-amz-content-sha256") digits (with_optional token_name c.token (inserted (hosted_headers c.target c.headers) (codes "x-amz-date") (stamp c.at))) (codes "x-amz-date")
+      ∙ kept_values digits
       ∙ layered token_name c.token (inserted (hosted_headers c.target c.headers) (codes "x-amz-date") (stamp c.at)) (codes "x-amz-date")
       ∙ ap (λ b. layer b c.token (named_values (inserted (hosted_headers c.target c.headers) (codes "x-amz-date") (stamp c.at)) (codes "x-amz-date"))) own.not_date
       ∙ kept_values c.token
@@ -267,8 +267,8 @@ module _ (c : Case) (is : SignsHeaders c) where
   host_among =
       among_from c (codes "host") host_signed
       (ap is_here (ap (λ (headers : List Pair). named_values headers (codes "host")) canonical_are
-      ∙ layered (codes "x-amz-content-sha256") told (with_optional token_name c.token (inserted (hosted_headers c.target c.headers) (codes "x-amz-date") (stamp c.at))) (codes "host")
-      ∙ kept_values told
+      ∙ layered (codes "x-amz-content-sha256") digits (with_optional token_name c.token (inserted (hosted_headers c.target c.headers) (codes "x-amz-date") (stamp c.at))) (codes "host")
+      ∙ kept_values digits
       ∙ layered token_name c.token (inserted (hosted_headers c.target c.headers) (codes "x-amz-date") (stamp c.at)) (codes "host")
       ∙ ap (λ b. layer b c.token (named_values (inserted (hosted_headers c.target c.headers) (codes "x-amz-date") (stamp c.at)) (codes "host"))) own.not_host
       ∙ kept_values c.token
@@ -280,35 +280,35 @@ module _ (c : Case) (is : SignsHeaders c) where
   -- the headers have their names in lower case, before and after signing
   pub canonical_lower : AreLower (canonical_headers c)
   canonical_lower = subst AreLower (sym canonical_are)
-      (lower_optional (codes "x-amz-content-sha256") told (with_optional token_name c.token (inserted (hosted_headers c.target c.headers) (codes "x-amz-date") (stamp c.at))) refl
+      (lower_optional (codes "x-amz-content-sha256") digits (with_optional token_name c.token (inserted (hosted_headers c.target c.headers) (codes "x-amz-date") (stamp c.at))) refl
       (lower_optional token_name c.token (inserted (hosted_headers c.target c.headers) (codes "x-amz-date") (stamp c.at)) own.is_lower
       (lower_inserted (codes "x-amz-date") (stamp c.at) (hosted_headers c.target c.headers) refl
       (lower_optional (codes "host") (added_host c.target c.headers) (given_headers c.headers) refl (given_lower c.headers is.lower)))))
 
   pub sent_lower : AreLower (signed_headers c)
   sent_lower = subst AreLower (sym sent_are)
-      (lower_optional token_name c.token (with_optional (codes "x-amz-content-sha256") told dated) own.is_lower
-      (lower_optional (codes "x-amz-content-sha256") told dated refl dated_lower))
+      (lower_optional token_name c.token (with_optional (codes "x-amz-content-sha256") digits dated) own.is_lower
+      (lower_optional (codes "x-amz-content-sha256") digits dated refl dated_lower))
 
   -- the two headers of the signature are there once
   pub authorization_once : named_values (signed_headers c) (codes "authorization") ≡ authorization c ∷ []
   authorization_once =
       ap (λ (headers : List Pair). named_values headers (codes "authorization")) sent_are
-      ∙ layered token_name c.token (with_optional (codes "x-amz-content-sha256") told dated) (codes "authorization")
-      ∙ ap (λ b. layer b c.token (named_values (with_optional (codes "x-amz-content-sha256") told dated) (codes "authorization"))) own.not_authorization
+      ∙ layered token_name c.token (with_optional (codes "x-amz-content-sha256") digits dated) (codes "authorization")
+      ∙ ap (λ b. layer b c.token (named_values (with_optional (codes "x-amz-content-sha256") digits dated) (codes "authorization"))) own.not_authorization
       ∙ kept_values c.token
-      ∙ layered (codes "x-amz-content-sha256") told dated (codes "authorization")
-      ∙ kept_values told
+      ∙ layered (codes "x-amz-content-sha256") digits dated (codes "authorization")
+      ∙ kept_values digits
       ∙ layered (codes "authorization") (Some (authorization c)) (inserted c.headers (codes "x-amz-date") (stamp c.at)) (codes "authorization")
 
   pub date_once : named_values (signed_headers c) (codes "x-amz-date") ≡ stamp c.at ∷ []
   date_once =
       ap (λ (headers : List Pair). named_values headers (codes "x-amz-date")) sent_are
-      ∙ layered token_name c.token (with_optional (codes "x-amz-content-sha256") told dated) (codes "x-amz-date")
-      ∙ ap (λ b. layer b c.token (named_values (with_optional (codes "x-amz-content-sha256") told dated) (codes "x-amz-date"))) own.not_date
+      ∙ layered token_name c.token (with_optional (codes "x-amz-content-sha256") digits dated) (codes "x-amz-date")
+      ∙ ap (λ b. layer b c.token (named_values (with_optional (codes "x-amz-content-sha256") digits dated) (codes "x-amz-date"))) own.not_date
       ∙ kept_values c.token
-      ∙ layered (codes "x-amz-content-sha256") told dated (codes "x-amz-date")
-      ∙ kept_values told
+      ∙ layered (codes "x-amz-content-sha256") digits dated (codes "x-amz-date")
+      ∙ kept_values digits
       ∙ layered (codes "authorization") (Some (authorization c)) (inserted c.headers (codes "x-amz-date") (stamp c.at)) (codes "x-amz-date")
       ∙ layered (codes "x-amz-date") (Some (stamp c.at)) c.headers (codes "x-amz-date")
 
@@ -324,15 +324,15 @@ module _ (c : Case) (is : SignsHeaders c) where
   pub authorization_is : first_value (signed_headers c) (codes "authorization") ≡ Some (authorization c)
   authorization_is =
       ap (λ (headers : List Pair). first_value headers (codes "authorization")) sent_are
-      ∙ first_optional_other token_name c.token (codes "authorization") own.not_authorization (with_optional (codes "x-amz-content-sha256") told dated)
-      ∙ first_optional_other (codes "x-amz-content-sha256") told (codes "authorization") refl dated
+      ∙ first_optional_other token_name c.token (codes "authorization") own.not_authorization (with_optional (codes "x-amz-content-sha256") digits dated)
+      ∙ first_optional_other (codes "x-amz-content-sha256") digits (codes "authorization") refl dated
       ∙ first_inserted_same (codes "authorization") (authorization c) (inserted c.headers (codes "x-amz-date") (stamp c.at))
 
   date_is : first_value (signed_headers c) (codes "x-amz-date") ≡ Some (stamp c.at)
   date_is =
       ap (λ (headers : List Pair). first_value headers (codes "x-amz-date")) sent_are
-      ∙ first_optional_other token_name c.token (codes "x-amz-date") own.not_date (with_optional (codes "x-amz-content-sha256") told dated)
-      ∙ first_optional_other (codes "x-amz-content-sha256") told (codes "x-amz-date") refl dated
+      ∙ first_optional_other token_name c.token (codes "x-amz-date") own.not_date (with_optional (codes "x-amz-content-sha256") digits dated)
+      ∙ first_optional_other (codes "x-amz-content-sha256") digits (codes "x-amz-date") refl dated
       ∙ first_inserted_other (codes "authorization") (authorization c) (codes "x-amz-date") refl (inserted c.headers (codes "x-amz-date") (stamp c.at))
       ∙ first_inserted_same (codes "x-amz-date") (stamp c.at) c.headers
 

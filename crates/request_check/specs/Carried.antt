@@ -10,7 +10,7 @@ use Rattle.sigv4.specs.declared.settings.SignatureLocation.{SignatureLocation}
 use Rattle.sigv4.specs.declared.settings.SignatureLocation.TheVariants.{Headers, QueryParams}
 use Rattle.sigv4.specs.Signature.{is_signature}
 use Rattle.request_check.specs.Authorization.{IsAuthorization}
-use Rattle.request_check.specs.Sealed.{IsUnsealed, SealParts, SealsHeaders, SealsParameters, SealsTarget, sealed_credential, told_expiry}
+use Rattle.request_check.specs.Sealed.{IsUnsealed, SealParts, SealsHeaders, SealsParameters, SealsTarget, sealed_credential, stated_expiry}
 use Rattle.request_check.specs.Stamped.{IsWholeSecond}
 use Rattle.request_check.specs.declared.authorization.Authorization.{Authorization}
 use Rattle.request_check.specs.declared.seal.Carried.{Carried}
@@ -61,7 +61,7 @@ pub record CarriesFirst (pairs : List Pair) (carried : Carried) : Type 0 where
   pub credential : first_value pairs (codes "X-Amz-Credential") ≡ Some carried.credential.now
   pub names : first_value pairs (codes "X-Amz-SignedHeaders") ≡ Some carried.names.now
   pub signature : first_value pairs (codes "X-Amz-Signature") ≡ Some carried.signature.now
-  pub expires : told_expiry pairs ≡ carried.expires
+  pub expires : stated_expiry pairs ≡ carried.expires
 
 -- the texts that carry a seal in pairs, or that these carry none
 abbrev pub ReadsParameters : List Pair → Option Carried → Type 0

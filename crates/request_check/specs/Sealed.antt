@@ -17,7 +17,7 @@ use Rattle.request_check.specs.Stamped.{IsWholeSecond}
 use Rattle.sigv4.specs.declared.settings.SignatureLocation.{SignatureLocation}
 use Rattle.sigv4.specs.declared.settings.SignatureLocation.TheVariants.{Headers, QueryParams}
 
--- what a seal tells: the key id, the moment, the names of the signed headers with `;` between, the signature, where they stand, and in parameters the expiry
+-- what a seal states: the key id, the moment, the names of the signed headers with `;` between, the signature, where they stand, and in parameters the expiry
 pub record SealParts : Type 0 where
   pub place : SignatureLocation
   pub key_id : List ℕ
@@ -44,8 +44,8 @@ abbrev pub spelled_seconds : List ℕ → Option ℕ
 spelled_seconds text = natural_below 18446744073709551616 text
 
 -- for how many seconds a target is good, by the first expiry among its parameters
-abbrev pub told_expiry : List Pair → Option ℕ
-told_expiry pairs = option_and_then spelled_seconds (first_value pairs (codes "X-Amz-Expires"))
+abbrev pub stated_expiry : List Pair → Option ℕ
+stated_expiry pairs = option_and_then spelled_seconds (first_value pairs (codes "X-Amz-Expires"))
 
 -- of each of a signature's parameters the first is that of the seal; the expiry may be absent
 pub record SealsParameters (pairs : List Pair) (region name : List ℕ) (seal : SealParts) : Type 0 where
@@ -55,7 +55,7 @@ pub record SealsParameters (pairs : List Pair) (region name : List ℕ) (seal : 
   pub credential : first_value pairs (codes "X-Amz-Credential") ≡ Some (sealed_credential region name seal)
   pub names : first_value pairs (codes "X-Amz-SignedHeaders") ≡ Some seal.names
   pub signature : first_value pairs (codes "X-Amz-Signature") ≡ Some seal.signature
-  pub expires : told_expiry pairs ≡ seal.expires
+  pub expires : stated_expiry pairs ≡ seal.expires
 
 -- the target that the text spells has the seal in its parameters
 abbrev pub SealsTarget : List ℕ → List ℕ → List ℕ → SealParts → Type 0

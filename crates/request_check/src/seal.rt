@@ -2,7 +2,7 @@ ghost use Rattle.std.specs.Prelude.{◌≡◌, true, string_bytes, IfOk};
 ghost use Rattle.smithy_core.specs.TextPairs.{text_pairs};
 ghost use Rattle.sigv4.specs.Signature.{is_signature};
 ghost use Rattle.request_check.specs.Carried.{MakesSeal, ReadsParameters, FindsHeaderSeal, FindsTargetSeal};
-ghost use Rattle.request_check.specs.Sealed.{FindsSeal, told_expiry};
+ghost use Rattle.request_check.specs.Sealed.{FindsSeal, stated_expiry};
 
 use crate::authorization::{key_id_before, read_authorization};
 use crate::parameters::{first_value, query_pairs, spelled_uri};
@@ -244,7 +244,7 @@ fn carried_by(pairs: &[(String, String)]) -> Option<Carried<'_>>
         date: first_value(pairs, "X-Amz-Date")?,
         names: first_value(pairs, "X-Amz-SignedHeaders")?,
         signature: first_value(pairs, "X-Amz-Signature")?,
-        expires: told_expiry(pairs),
+        expires: stated_expiry(pairs),
     };
     if is_signature(carried.signature) {
         Some(carried)
@@ -254,8 +254,8 @@ fn carried_by(pairs: &[(String, String)]) -> Option<Carried<'_>>
 }
 
 // For how many seconds a target with these parameters is good.
-fn told_expiry(pairs: &[(String, String)]) -> Option<u64>
-    ensures { result ≡ told_expiry (text_pairs pairs.now) }
+fn stated_expiry(pairs: &[(String, String)]) -> Option<u64>
+    ensures { result ≡ stated_expiry (text_pairs pairs.now) }
 {
     parse_u64(first_value(pairs, "X-Amz-Expires")?)
 }

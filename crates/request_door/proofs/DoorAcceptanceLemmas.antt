@@ -26,7 +26,7 @@ use Rattle.presign_check.proofs.ParameterLemmas.{first_of_one}
 use Rattle.request_door.specs.DoorAcceptance.{IsOwnSignature}
 use Rattle.request_door.specs.DoorAuthorization.{IsDoorAuthorization}
 use Rattle.request_door.specs.DoorCarried.{CarriesAt, DoorTexts, IsInForm}
-use Rattle.request_door.specs.DoorTerms.{DoorTerms, TellsTerms, door_seal, seal_expiry, told_seconds}
+use Rattle.request_door.specs.DoorTerms.{DoorTerms, TextsState, door_seal, seal_expiry, stated_seconds}
 use Rattle.request_door.specs.Doors.{DoorInput}
 use Rattle.request_door.proofs.DoorReadingLemmas.{read_strictly}
 
@@ -47,34 +47,34 @@ some_text e = ap (λ (t : List ℕ). Some t) e
 
 module _ (request : HttpRequest) (region name : List ℕ) (uri : Uri) (texts : DoorTexts) (terms : DoorTerms) where
   sealed_at : (place : SignatureLocation) → texts.place ≡ place → SpellsTarget (string_bytes request.target) uri → IsInForm request.headers (decoded (target_of uri)) place
-      → CarriesAt place request.headers (decoded (target_of uri)) texts → ReadsStrictly request.headers → TellsTerms region name texts terms
+      → CarriesAt place request.headers (decoded (target_of uri)) texts → ReadsStrictly request.headers → TextsState region name texts terms
       → IsSealedAt place request.headers (string_bytes request.target) region name (door_seal texts terms)
-  sealed_at Headers here spelled in_form carried strictly told = record {
-    moment = told.moment;
-    date = first_of_one request.headers (codes "x-amz-date") texts.date carried.date ∙ some_text (sym told.date);
+  sealed_at Headers here spelled in_form carried strictly stated = record {
+    moment = stated.moment;
+    date = first_of_one request.headers (codes "x-amz-date") texts.date carried.date ∙ some_text (sym stated.date);
     authorization = carried.authorization;
     first = first_of_one request.headers (codes "authorization") carried.authorization carried.once;
-    read = subst (λ (t : List ℕ). IsAuthorization carried.authorization t texts.names texts.signature) told.credential
+    read = subst (λ (t : List ℕ). IsAuthorization carried.authorization t texts.names texts.signature) stated.credential
         (strictly carried.authorization texts.credential texts.names texts.signature
         (first_of_one request.headers (codes "authorization") carried.authorization carried.once) carried.read);
     no_expiry = ap (λ (p : SignatureLocation). seal_expiry p terms) here;
   }
-  sealed_at QueryParams here spelled in_form carried strictly told =
+  sealed_at QueryParams here spelled in_form carried strictly stated =
       let pairs = decoded (target_of uri) in (
         unsealed_bare request.headers region name (none_there (first_value request.headers (codes "authorization")) in_form.0),
         (
           uri,
           spelled.0,
           record {
-            moment = told.moment;
+            moment = stated.moment;
             digits = carried.digits;
-            date = first_of_one pairs (codes "X-Amz-Date") texts.date carried.date ∙ some_text (sym told.date);
-            credential = first_of_one pairs (codes "X-Amz-Credential") texts.credential carried.credential ∙ some_text told.credential;
+            date = first_of_one pairs (codes "X-Amz-Date") texts.date carried.date ∙ some_text (sym stated.date);
+            credential = first_of_one pairs (codes "X-Amz-Credential") texts.credential carried.credential ∙ some_text stated.credential;
             names = first_of_one pairs (codes "X-Amz-SignedHeaders") texts.names carried.names;
             signature = first_of_one pairs (codes "X-Amz-Signature") texts.signature carried.signature;
             expires =
                 ap (option_and_then spelled_seconds) (first_of_one pairs (codes "X-Amz-Expires") texts.expires carried.expires)
-                ∙ (sym (ap (λ (p : SignatureLocation). told_seconds p texts.expires) here) ∙ (told.expires ∙ sym (ap (λ (p : SignatureLocation). seal_expiry p terms) here)));
+                ∙ (sym (ap (λ (p : SignatureLocation). stated_seconds p texts.expires) here) ∙ (stated.expires ∙ sym (ap (λ (p : SignatureLocation). seal_expiry p terms) here)));
           },
         ),
       )
@@ -145,12 +145,12 @@ own_seal c sent uri is of spelled = by c.settings.signature_location refl is.apa
 
 pub own_signature : (asked : DoorInput) → IsOwnSignature asked
 own_signature asked = λ c is reading has differs.
-    let told = has.payload.timely.names.told in
-    let carried = told.texts in
+    let stated = has.payload.timely.names.stated in
+    let carried = stated.texts in
     let target = carried.form.target in
     let own = own_seal c asked.request reading.uri is.signed is.sent target.spelled in
     let mine : IsSealed asked.request asked.region asked.name (door_seal reading.texts reading.terms) =
-    sealed_at asked.request asked.region asked.name reading.uri reading.texts reading.terms reading.texts.place refl target.spelled carried.form.in_form carried.carried own.strictly told.told in
+    sealed_at asked.request asked.region asked.name reading.uri reading.texts reading.terms reading.texts.place refl target.spelled carried.form.in_form carried.carried own.strictly stated.stated in
     let theirs : IsSealed asked.request asked.region asked.name own.seal =
     subst (λ (region : List ℕ). IsSealed asked.request region asked.name own.seal) is.region
     (subst (λ (name : List ℕ). IsSealed asked.request c.signer.region name own.seal) is.name own.sealed) in

@@ -38,8 +38,8 @@ use Rattle.request_door.specs.DoorCarried.{CarriesAt, IsInForm, MeetsCarried, Me
 use Rattle.request_door.specs.DoorNames.{MeetsName, name_tests}
 use Rattle.request_door.specs.DoorOrder.{NoneMet}
 use Rattle.request_door.specs.DoorPayloads.{shown_form, shown_payload, signed_payload}
-use Rattle.request_door.specs.DoorTerms.{MeetsTerm, PassesScope, TellsTerms, good_from, good_until, region_end, scope_end, service_end, term_tests, told_seconds}
-use Rattle.request_door.specs.Doors.{AnswersDoor, DoorInput, DoorReading, HasCarriedTexts, HasForm, HasKey, HasNames, HasPayload, HasTold, IsTimely, MeetsLast, RefusesFirst, last_tests}
+use Rattle.request_door.specs.DoorTerms.{MeetsTerm, PassesScope, TextsState, good_from, good_until, region_end, scope_end, service_end, term_tests, stated_seconds}
+use Rattle.request_door.specs.Doors.{AnswersDoor, DoorInput, DoorReading, HasCarriedTexts, HasForm, HasKey, HasNames, HasPayload, HasStated, IsTimely, MeetsLast, RefusesFirst, last_tests}
 use Rattle.request_door.specs.declared.admitted.Admitted.{Admitted}
 use Rattle.request_door.specs.declared.fault.DoorFault.{DoorFault}
 use Rattle.request_door.specs.declared.limits.Limits.{Limits}
@@ -48,8 +48,8 @@ use Rattle.request_door.proofs.DoorAcceptanceLemmas.{own_signature}
 use Rattle.request_door.proofs.DoorCarriedLemmas.{in_one_form, whole_header, whole_parameters}
 use Rattle.request_door.proofs.DoorLemmas.{unmet}
 use Rattle.request_door.proofs.DoorNameLemmas.{names_pass}
-use Rattle.request_door.proofs.DoorOneAnswerLemmas.{forms, had_uri, told_so, unmet_first}
-use Rattle.request_door.proofs.DoorTermLemmas.{ends, tells}
+use Rattle.request_door.proofs.DoorOneAnswerLemmas.{forms, had_uri, stated_so, unmet_first}
+use Rattle.request_door.proofs.DoorTermLemmas.{ends, states}
 
 -- ---- what a signed request shows, in either form
 
@@ -60,7 +60,7 @@ record ShowsRequest (c : Case) (limits : Limits) (place : SignatureLocation) (ta
   in_form : IsInForm (signed_headers c) (decoded target) place
   whole : NoneMet (MeetsCarried place (signed_headers c) (decoded target)) (tests_of place)
   carried : CarriesAt place (signed_headers c) (decoded target) (case_texts place c)
-  seconds : told_seconds place (case_expires place c.settings.expires_in) ≡ Some (case_seconds place c.settings.expires_in)
+  seconds : stated_seconds place (case_expires place c.settings.expires_in) ≡ Some (case_seconds place c.settings.expires_in)
   within : case_seconds place c.settings.expires_in ≤ limits.expiry
 
 no_parameters : (c : Case) → is_query_form c.settings ≡ false → parameters c ≡ []
@@ -127,7 +127,7 @@ request_in_query c limits is seconds expiry short =
     either true = refl
     either false = refl
 
--- ---- what its texts tell
+-- ---- what its texts state
 
 stamped_so : (c : Case) → IsInYears c.at → ReadsStamp (stamp c.at) (Some (floor_secs c.at))
 unfolding stamp civil_of
@@ -194,17 +194,17 @@ module _ (asked : DoorInput) (c : Case) (form : DoorPayload) (due : IsDueAtDoor 
       carried = moved (λ headers t. CarriesAt place headers (decoded t) (case_texts place c)) shows.carried;
     }
 
-    told_terms : NoneMet (MeetsTerm c.signer.region c.signer.name asked.limits (case_texts place c)) term_tests
-        × TellsTerms c.signer.region c.signer.name (case_texts place c) (case_terms place c)
-    told_terms = tells c.signer.region c.signer.name asked.limits (case_texts place c) (floor_secs c.at) (stamped_so c due.signed.in_years) (scoped_so c) c.key_id (cut_so c)
+    stated_terms : NoneMet (MeetsTerm c.signer.region c.signer.name asked.limits (case_texts place c)) term_tests
+        × TextsState c.signer.region c.signer.name (case_texts place c) (case_terms place c)
+    stated_terms = states c.signer.region c.signer.name asked.limits (case_texts place c) (floor_secs c.at) (stamped_so c due.signed.in_years) (scoped_so c) c.key_id (cut_so c)
         (case_seconds place c.settings.expires_in) shows.seconds shows.within
 
-    has_told : HasTold own reading
-    has_told = record { texts = has_texts; good = told_terms.0; told = told_terms.1 }
+    has_stated : HasStated own reading
+    has_stated = record { texts = has_texts; good = stated_terms.0; stated = stated_terms.1 }
 
     has_names : HasNames own reading
     has_names = record {
-      told = has_told;
+      stated = has_stated;
       named =
           subst (λ (p : SignatureLocation). NoneMet (MeetsName p c.settings.session_token_mode asked.limits asked.request.headers (carried_names (joined_names (names c)))) name_tests) here
           (subst (λ (all : List (List ℕ)). NoneMet (MeetsName c.settings.signature_location c.settings.session_token_mode asked.limits asked.request.headers all) name_tests) (sym shows.names_are.carried)
@@ -260,8 +260,8 @@ module _ (asked : DoorInput) (c : Case) (form : DoorPayload) (due : IsDueAtDoor 
 
   let_in : (result : Result Admitted DoorFault) → AnswersDoor own result → IsLetIn place asked.limits c form result
   let_in (Ok admitted) is =
-      let spelled = is.key.payload.timely.names.told.texts.form.target.spelled in
-      told_so own admitted (reading is.reading.uri spelled) is (has_key is.reading.uri spelled)
+      let spelled = is.key.payload.timely.names.stated.texts.form.target.spelled in
+      stated_so own admitted (reading is.reading.uri spelled) is (has_key is.reading.uri spelled)
   let_in (Err fault) (inl first) = absurd (unrefused fault first)
   let_in (Err fault) (inr room) = room
 

@@ -33,23 +33,23 @@ opened asked r = refl
 pub covers : (asked : DoorInput) (admitted : Admitted) → IsAdmitted asked admitted → Covers asked admitted
 covers asked admitted is =
     let r = is.reading in
-    let told = is.told in
+    let stated = is.stated in
     let named = is.key.payload.timely.names.named in
     let signer : Signer = record { secret = r.secret; region = asked.region; name = asked.name } in
     record {
       uri = r.uri;
       secret = r.secret;
-      spelled = is.key.payload.timely.names.told.texts.form.target.spelled;
-      known = ap asked.secrets told.key_id ∙ is.key.known;
-      signed = told.signature ∙ (is.own ∙ (opened asked r ∙ (λ i. signature signer (sym told.at i)
+      spelled = is.key.payload.timely.names.stated.texts.form.target.spelled;
+      known = ap asked.secrets stated.key_id ∙ is.key.known;
+      signed = stated.signature ∙ (is.own ∙ (opened asked r ∙ (λ i. signature signer (sym stated.at i)
           (canonical_lines (string_bytes asked.request.method)
           (canonical_path asked.settings.uri_path_normalization_mode asked.settings.percent_encoding_mode (target_of r.uri).path)
-          (query (sent_pairs (sym told.place i) asked.settings (decoded (target_of r.uri))))
-          (flat_map (header_line (hosted_headers (target_of r.uri) asked.request.headers)) (carried_names (sym told.names i))) (sym told.names i)
-          (signed_payload (shown_payload asked.request.headers) (sym told.payload i) asked.body)))));
-      host = ap (λ (names : List ℕ). list_any (bytes_eq (codes "host")) (carried_names names)) told.names
+          (query (sent_pairs (sym stated.place i) asked.settings (decoded (target_of r.uri))))
+          (flat_map (header_line (hosted_headers (target_of r.uri) asked.request.headers)) (carried_names (sym stated.names i))) (sym stated.names i)
+          (signed_payload (shown_payload asked.request.headers) (sym stated.payload i) asked.body)))));
+      host = ap (λ (names : List ℕ). list_any (bytes_eq (codes "host")) (carried_names names)) stated.names
           ∙ is_so (list_any (bytes_eq (codes "host")) (carried_names r.texts.names)) named.1.1.1.0;
-      owed = (λ i. list_all (is_signed_as_owed (told.place i) asked.settings.session_token_mode (carried_names (told.names i))) asked.request.headers)
+      owed = (λ i. list_all (is_signed_as_owed (stated.place i) asked.settings.session_token_mode (carried_names (stated.names i))) asked.request.headers)
           ∙ is_so (list_all (is_signed_as_owed r.texts.place asked.settings.session_token_mode (carried_names r.texts.names)) asked.request.headers) named.1.1.1.1.0;
-      payload = λ other. is.last.0 (subst (λ form. IsOtherPayload (shown_payload asked.request.headers) form asked.body) told.payload other);
+      payload = λ other. is.last.0 (subst (λ form. IsOtherPayload (shown_payload asked.request.headers) form asked.body) stated.payload other);
     }

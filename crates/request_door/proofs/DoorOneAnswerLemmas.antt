@@ -17,11 +17,11 @@ use Rattle.presign_check.proofs.SignatureLemmas.{one_target, spelled_once}
 use Rattle.request_door.specs.DoorAuthorization.{IsDoorAuthorization}
 use Rattle.request_door.specs.DoorCarried.{CarriesAt, DoorTexts, IsInForm, MeetsCarried, MeetsDoorForm, form_tests, tests_of}
 use Rattle.request_door.specs.DoorNames.{MeetsName, name_tests}
-use Rattle.request_door.specs.DoorOneAnswer.{HasOneDoorAnswer, IsToldSame}
+use Rattle.request_door.specs.DoorOneAnswer.{HasOneDoorAnswer, IsSameAdmitted}
 use Rattle.request_door.specs.DoorOrder.{IsFirstMet, NoneMet}
 use Rattle.request_door.specs.DoorPayloads.{IsOtherPayload, MeetsPayload, payload_tests, shown_form, shown_payload, signed_payload}
-use Rattle.request_door.specs.DoorTerms.{DoorTerms, MeetsTerm, MeetsTime, TellsTerms, door_seal, good_until, term_tests, time_tests}
-use Rattle.request_door.specs.Doors.{DoorInput, DoorReading, HasForm, HasKey, HasNames, HasPayload, HasTarget, HasCarriedTexts, HasTold, IsAdmitted, IsTimely, MeetsLast, RefusesCarried, RefusesFirst, RefusesForm, RefusesHeader, RefusesKey, RefusesLast, RefusesNames, RefusesPayload, RefusesDoorTarget, RefusesTerms, RefusesTime, TellsRequest, door_signature, last_tests}
+use Rattle.request_door.specs.DoorTerms.{DoorTerms, MeetsTerm, MeetsTime, TextsState, door_seal, good_until, term_tests, time_tests}
+use Rattle.request_door.specs.Doors.{DoorInput, DoorReading, HasForm, HasKey, HasNames, HasPayload, HasTarget, HasCarriedTexts, HasStated, IsAdmitted, IsTimely, MeetsLast, RefusesCarried, RefusesFirst, RefusesForm, RefusesHeader, RefusesKey, RefusesLast, RefusesNames, RefusesPayload, RefusesDoorTarget, RefusesTerms, RefusesTime, AdmitsAs, door_signature, last_tests}
 use Rattle.request_door.specs.declared.admitted.Admitted.{Admitted}
 use Rattle.request_door.specs.declared.fault.DoorFault.{DoorFault}
 use Rattle.request_door.specs.declared.payload.DoorPayload.{DoorPayload}
@@ -82,8 +82,8 @@ one_carried QueryParams headers pairs a b place p q =
     (head_same a.expires b.expires (sym p.expires ∙ q.expires)) (head_same a.names b.names (sym p.names ∙ q.names))
     (head_same a.signature b.signature (sym p.signature ∙ q.signature))
 
-one_told : (region name : List ℕ) (texts : DoorTexts) (a b : DoorTerms) → TellsTerms region name texts a → TellsTerms region name texts b → a ≡ b
-one_told region name texts a b p q =
+one_stated : (region name : List ℕ) (texts : DoorTexts) (a b : DoorTerms) → TextsState region name texts a → TextsState region name texts b → a ≡ b
+one_stated region name texts a b p q =
     let at : a.at ≡ b.at = stamped_once a.at b.at p.moment q.moment (p.date ∙ sym q.date) in
     let key_id : a.key_id ≡ b.key_id = append_cancel_right a.key_id b.key_id (codes "/")
     (append_cancel_right (a.key_id ++ codes "/") (b.key_id ++ codes "/") (scope b.at region name)
@@ -107,19 +107,19 @@ module _ (asked : DoorInput) where
       (subst (λ (t : Target). CarriesAt b.texts.place asked.request.headers (decoded t) a.texts) (targets a b p.form.target q.form.target)
       (subst (λ (at : SignatureLocation). CarriesAt at asked.request.headers (decoded (target_of a.uri)) a.texts) place p.carried)) q.carried
 
-  terms : (a b : DoorReading) → HasTold asked a → HasTold asked b → a.terms ≡ b.terms
+  terms : (a b : DoorReading) → HasStated asked a → HasStated asked b → a.terms ≡ b.terms
   terms a b p q =
-      one_told asked.region asked.name b.texts a.terms b.terms
-      (subst (λ (t : DoorTexts). TellsTerms asked.region asked.name t a.terms) (texts a b p.texts q.texts) p.told) q.told
+      one_stated asked.region asked.name b.texts a.terms b.terms
+      (subst (λ (t : DoorTexts). TextsState asked.region asked.name t a.terms) (texts a b p.texts q.texts) p.stated) q.stated
 
   pub forms : (a b : DoorReading) → HasPayload asked a → HasPayload asked b → a.form ≡ b.form
   forms a b p q =
-      let same = texts a b p.timely.names.told.texts q.timely.names.told.texts in
+      let same = texts a b p.timely.names.stated.texts q.timely.names.stated.texts in
       some_same (sym p.form ∙ (ap (λ (t : DoorTexts). shown_form t.place asked.settings.payload_checksum_kind (shown_payload asked.request.headers)) same ∙ q.form))
 
   secrets_are : (a b : DoorReading) → HasKey asked a → HasKey asked b → a.secret ≡ b.secret
   secrets_are a b p q =
-      let same = terms a b p.payload.timely.names.told q.payload.timely.names.told in
+      let same = terms a b p.payload.timely.names.stated q.payload.timely.names.stated in
       some_same (sym p.known ∙ (ap (λ (t : DoorTerms). asked.secrets t.key_id) same ∙ q.known))
 
   -- ---- a test that is met of one reading is met of the other
@@ -144,7 +144,7 @@ module _ (asked : DoorInput) where
   abbrev Names : DoorTexts → DoorFault → Type 0
   Names t f = IsFirstMet (MeetsName t.place asked.settings.session_token_mode asked.limits asked.request.headers (carried_names t.names)) name_tests f
 
-  move_names : (a b : DoorReading) (f : DoorFault) → HasTold asked a → HasTold asked b → Names a.texts f → Names b.texts f
+  move_names : (a b : DoorReading) (f : DoorFault) → HasStated asked a → HasStated asked b → Names a.texts f → Names b.texts f
   move_names a b f p q first = subst (λ (t : DoorTexts). Names t f) (texts a b p.texts q.texts) first
 
   abbrev Time : DoorTexts → DoorTerms → DoorFault → Type 0
@@ -152,21 +152,21 @@ module _ (asked : DoorInput) where
 
   move_time : (a b : DoorReading) (f : DoorFault) → HasNames asked a → HasNames asked b → Time a.texts a.terms f → Time b.texts b.terms f
   move_time a b f p q first =
-      subst (λ (t : DoorTerms). Time b.texts t f) (terms a b p.told q.told) (subst (λ (t : DoorTexts). Time t a.terms f) (texts a b p.told.texts q.told.texts) first)
+      subst (λ (t : DoorTerms). Time b.texts t f) (terms a b p.stated q.stated) (subst (λ (t : DoorTexts). Time t a.terms f) (texts a b p.stated.texts q.stated.texts) first)
 
   abbrev Shown : DoorTexts → DoorFault → Type 0
   Shown t f = IsFirstMet (MeetsPayload t.place asked.settings.payload_checksum_kind asked.request.headers) payload_tests f
 
   move_payload : (a b : DoorReading) (f : DoorFault) → IsTimely asked a → IsTimely asked b → Shown a.texts f → Shown b.texts f
-  move_payload a b f p q first = subst (λ (t : DoorTexts). Shown t f) (texts a b p.names.told.texts q.names.told.texts) first
+  move_payload a b f p q first = subst (λ (t : DoorTexts). Shown t f) (texts a b p.names.stated.texts q.names.stated.texts) first
 
   signatures : (a b : DoorReading) → HasKey asked a → HasKey asked b → door_signature asked a ≡ door_signature asked b
   signatures a b p q =
-      let told_a = p.payload.timely.names.told in
-      let told_b = q.payload.timely.names.told in
-      let target = targets a b told_a.texts.form.target told_b.texts.form.target in
-      let text = texts a b told_a.texts told_b.texts in
-      let term = terms a b told_a told_b in
+      let stated_a = p.payload.timely.names.stated in
+      let stated_b = q.payload.timely.names.stated in
+      let target = targets a b stated_a.texts.form.target stated_b.texts.form.target in
+      let text = texts a b stated_a.texts stated_b.texts in
+      let term = terms a b stated_a stated_b in
       let form = forms a b p.payload q.payload in
       let secret = secrets_are a b p q in
       λ i. recomputed (string_bytes asked.request.method) (target i) asked.request.headers asked.settings
@@ -178,7 +178,7 @@ module _ (asked : DoorInput) where
   move_last a b f p q (inl (other, is)) =
       inl (subst (λ (form : DoorPayload). IsOtherPayload (shown_payload asked.request.headers) form asked.body) (forms a b p.payload q.payload) other, is)
   move_last a b f p q (inr (none, inl (differs, is))) =
-      let text = texts a b p.payload.timely.names.told.texts q.payload.timely.names.told.texts in
+      let text = texts a b p.payload.timely.names.stated.texts q.payload.timely.names.stated.texts in
       inr (
         λ other. none (subst (λ (form : DoorPayload). IsOtherPayload (shown_payload asked.request.headers) form asked.body) (sym (forms a b p.payload q.payload)) other),
         inl (λ e. differs (ap (λ (t : DoorTexts). t.signature) text ∙ (e ∙ sym (signatures a b p q))), is),
@@ -203,14 +203,14 @@ module _ (asked : DoorInput) where
   no_carried f r (a, p, first) has =
       none_first (MeetsCarried r.texts.place asked.request.headers (decoded (target_of r.uri))) (tests_of r.texts.place) f has.whole (move_carried a r f p has.form first)
 
-  no_terms : (f : DoorFault) (r : DoorReading) → RefusesTerms asked f → HasTold asked r → ⊥
+  no_terms : (f : DoorFault) (r : DoorReading) → RefusesTerms asked f → HasStated asked r → ⊥
   no_terms f r (a, p, first) has =
       none_first (MeetsTerm asked.region asked.name asked.limits r.texts) term_tests f has.good (move_terms a r f p has.texts first)
 
   no_names : (f : DoorFault) (r : DoorReading) → RefusesNames asked f → HasNames asked r → ⊥
   no_names f r (a, p, first) has =
       none_first (MeetsName r.texts.place asked.settings.session_token_mode asked.limits asked.request.headers (carried_names r.texts.names)) name_tests f has.named
-      (move_names a r f p has.told first)
+      (move_names a r f p has.stated first)
 
   no_time : (f : DoorFault) (r : DoorReading) → RefusesTime asked f → IsTimely asked r → ⊥
   no_time f r (a, p, first) has =
@@ -223,7 +223,7 @@ module _ (asked : DoorInput) where
 
   no_key : (f : DoorFault) (r : DoorReading) → RefusesKey asked f → HasKey asked r → ⊥
   no_key f r (a, p, none, is) has =
-      absent (sym none ∙ (ap (λ (t : DoorTerms). asked.secrets t.key_id) (terms a r p.timely.names.told has.payload.timely.names.told) ∙ has.known))
+      absent (sym none ∙ (ap (λ (t : DoorTerms). asked.secrets t.key_id) (terms a r p.timely.names.stated has.payload.timely.names.stated) ∙ has.known))
 
   -- ---- what those after a group passed
 
@@ -263,9 +263,9 @@ module _ (asked : DoorInput) where
   had_names f (inl (r, p, first)) = (r, p)
   had_names f (inr m) = let had = had_time f m in (had.0, had.1.names)
 
-  had_told : (f : DoorFault) → FromNames f → (r : DoorReading) × HasTold asked r
+  had_told : (f : DoorFault) → FromNames f → (r : DoorReading) × HasStated asked r
   had_told f (inl (r, p, first)) = (r, p)
-  had_told f (inr m) = let had = had_names f m in (had.0, had.1.told)
+  had_told f (inr m) = let had = had_names f m in (had.0, had.1.stated)
 
   had_texts : (f : DoorFault) → FromTerms f → (r : DoorReading) × HasCarriedTexts asked r
   had_texts f (inl (r, p, first)) = (r, p)
@@ -352,11 +352,11 @@ module _ (asked : DoorInput) where
   unmet_first f r key none first = by first
     where
       by : RefusesFirst asked f → ⊥
-      by (inl m) = no_target f r.uri m key.payload.timely.names.told.texts.form.target.spelled
-      by (inr (inl m)) = no_header f r m key.payload.timely.names.told.texts.form.target
-      by (inr (inr (inl m))) = no_form f r m key.payload.timely.names.told.texts.form
-      by (inr (inr (inr (inl m)))) = no_carried f r m key.payload.timely.names.told.texts
-      by (inr (inr (inr (inr (inl m))))) = no_terms f r m key.payload.timely.names.told
+      by (inl m) = no_target f r.uri m key.payload.timely.names.stated.texts.form.target.spelled
+      by (inr (inl m)) = no_header f r m key.payload.timely.names.stated.texts.form.target
+      by (inr (inr (inl m))) = no_form f r m key.payload.timely.names.stated.texts.form
+      by (inr (inr (inr (inl m)))) = no_carried f r m key.payload.timely.names.stated.texts
+      by (inr (inr (inr (inr (inl m))))) = no_terms f r m key.payload.timely.names.stated
       by (inr (inr (inr (inr (inr (inl m)))))) = no_names f r m key.payload.timely.names
       by (inr (inr (inr (inr (inr (inr (inl m))))))) = no_time f r m key.payload.timely
       by (inr (inr (inr (inr (inr (inr (inr (inl m)))))))) = no_payload f r m key.payload
@@ -364,33 +364,33 @@ module _ (asked : DoorInput) where
       by (inr (inr (inr (inr (inr (inr (inr (inr (inr (a, p, last)))))))))) =
           none_first (MeetsLast asked r) last_tests f none (move_last a r f p key last)
 
-  -- what is told of an admitted request is what is read of it
-  pub told_so : (admitted : Admitted) (r : DoorReading) → IsAdmitted asked admitted → HasKey asked r
-      → TellsRequest r.texts r.terms (good_until r.texts.place asked.limits r.terms) r.form admitted
-  told_so admitted r is key =
-      let text = texts is.reading r is.key.payload.timely.names.told.texts key.payload.timely.names.told.texts in
-      let term = terms is.reading r is.key.payload.timely.names.told key.payload.timely.names.told in
+  -- what is said of an admitted request is what is read of it
+  pub stated_so : (admitted : Admitted) (r : DoorReading) → IsAdmitted asked admitted → HasKey asked r
+      → AdmitsAs r.texts r.terms (good_until r.texts.place asked.limits r.terms) r.form admitted
+  stated_so admitted r is key =
+      let text = texts is.reading r is.key.payload.timely.names.stated.texts key.payload.timely.names.stated.texts in
+      let term = terms is.reading r is.key.payload.timely.names.stated key.payload.timely.names.stated in
       record {
-        key_id = is.told.key_id ∙ ap (λ (t : DoorTerms). t.key_id) term;
-        place = is.told.place ∙ ap (λ (t : DoorTexts). t.place) text;
-        at = is.told.at ∙ ap (λ (t : DoorTerms). t.at) term;
-        until = is.told.until ∙ (λ i. good_until (text i).place asked.limits (term i));
-        names = is.told.names ∙ ap (λ (t : DoorTexts). t.names) text;
-        payload = is.told.payload ∙ forms is.reading r is.key.payload key.payload;
-        signature = is.told.signature ∙ ap (λ (t : DoorTexts). t.signature) text;
+        key_id = is.stated.key_id ∙ ap (λ (t : DoorTerms). t.key_id) term;
+        place = is.stated.place ∙ ap (λ (t : DoorTexts). t.place) text;
+        at = is.stated.at ∙ ap (λ (t : DoorTerms). t.at) term;
+        until = is.stated.until ∙ (λ i. good_until (text i).place asked.limits (term i));
+        names = is.stated.names ∙ ap (λ (t : DoorTexts). t.names) text;
+        payload = is.stated.payload ∙ forms is.reading r is.key.payload key.payload;
+        signature = is.stated.signature ∙ ap (λ (t : DoorTexts). t.signature) text;
       }
 
-  told_same : (admitted other : Admitted) → IsAdmitted asked admitted → IsAdmitted asked other → IsToldSame admitted other
+  told_same : (admitted other : Admitted) → IsAdmitted asked admitted → IsAdmitted asked other → IsSameAdmitted admitted other
   told_same admitted other p q =
-      let told = told_so other p.reading q p.key in
+      let stated = stated_so other p.reading q p.key in
       record {
-        key_id = told.key_id ∙ sym p.told.key_id;
-        place = told.place ∙ sym p.told.place;
-        at = told.at ∙ sym p.told.at;
-        until = told.until ∙ sym p.told.until;
-        names = told.names ∙ sym p.told.names;
-        payload = told.payload ∙ sym p.told.payload;
-        signature = told.signature ∙ sym p.told.signature;
+        key_id = stated.key_id ∙ sym p.stated.key_id;
+        place = stated.place ∙ sym p.stated.place;
+        at = stated.at ∙ sym p.stated.at;
+        until = stated.until ∙ sym p.stated.until;
+        names = stated.names ∙ sym p.stated.names;
+        payload = stated.payload ∙ sym p.stated.payload;
+        signature = stated.signature ∙ sym p.stated.signature;
       }
 
   pub one_answer : HasOneDoorAnswer asked

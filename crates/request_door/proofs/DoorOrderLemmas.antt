@@ -14,8 +14,8 @@ use Rattle.request_check.specs.Recomputed.{carried_names}
 use Rattle.request_door.specs.DoorCarried.{DoorTexts, ReadsCarried, texts_carried}
 use Rattle.request_door.specs.DoorNames.{PassesNames}
 use Rattle.request_door.specs.DoorPayloads.{ReadsPayload}
-use Rattle.request_door.specs.DoorTerms.{DoorTerms, ReadsDoorTerms, TestsTime, door_seal, told_terms}
-use Rattle.request_door.specs.Doors.{AcceptsTarget, AnswersDoor, CarriesTerms, DoorInput, DoorReading, FindsSecret, HasForm, HasKey, HasNames, HasPayload, HasTarget, HasCarriedTexts, HasTold, IsTimely, TellsRequest, TestsLast}
+use Rattle.request_door.specs.DoorTerms.{DoorTerms, ReadsDoorTerms, TestsTime, door_seal, stated_terms}
+use Rattle.request_door.specs.Doors.{AcceptsTarget, AnswersDoor, CarriesTerms, DoorInput, DoorReading, FindsSecret, HasForm, HasKey, HasNames, HasPayload, HasTarget, HasCarriedTexts, HasStated, IsTimely, AdmitsAs, TestsLast}
 use Rattle.request_door.specs.declared.admitted.Admitted.{Admitted}
 use Rattle.request_door.specs.declared.carried.Carried.{Carried}
 use Rattle.request_door.specs.declared.fault.DoorFault.{DoorFault}
@@ -77,7 +77,7 @@ module _ (asked : DoorInput) (uri : Uri) (accepted : AcceptsTarget asked.request
       carried = reads.3;
     }
 
-    -- the texts don't tell what they have to
+    -- the texts don't state what they have to
     pub refused_terms : (fault : DoorFault) → ReadsDoorTerms asked.region asked.name asked.limits (texts_carried read) (Err fault) → AnswersDoor asked (Err fault)
     refused_terms fault (inl first) =
         inl (inr (inr (inr (inr (inl (read_so_far uri (texts_carried read) no_terms Unsigned [], left_texts no_terms Unsigned [], first))))))
@@ -85,12 +85,12 @@ module _ (asked : DoorInput) (uri : Uri) (accepted : AcceptsTarget asked.request
 
 -- ---- what is left behind the terms
 
-module _ (asked : DoorInput) (uri : Uri) (read : Carried) (told : Terms) (carries : CarriesTerms asked.request uri asked.region asked.name asked.limits read told) where
-  left_told : (form : DoorPayload) (secret : List ℕ) → HasTold asked (read_so_far uri (texts_carried read) (told_terms told) form secret)
-  left_told form secret = record {
-    texts = left_texts asked uri carries.texts.accepted read carries.texts.reads (told_terms told) form secret;
-    good = carries.tells.0;
-    told = carries.tells.1;
+module _ (asked : DoorInput) (uri : Uri) (read : Carried) (stated : Terms) (carries : CarriesTerms asked.request uri asked.region asked.name asked.limits read stated) where
+  left_stated : (form : DoorPayload) (secret : List ℕ) → HasStated asked (read_so_far uri (texts_carried read) (stated_terms stated) form secret)
+  left_stated form secret = record {
+    texts = left_texts asked uri carries.texts.accepted read carries.texts.reads (stated_terms stated) form secret;
+    good = carries.states.0;
+    stated = carries.states.1;
   }
 
   -- the names aren't as they have to be
@@ -98,66 +98,66 @@ module _ (asked : DoorInput) (uri : Uri) (read : Carried) (told : Terms) (carrie
       → PassesNames read.place asked.settings.session_token_mode asked.limits asked.request.headers (carried_names read.names.now) (Err fault)
       → AnswersDoor asked (Err fault)
   refused_names fault (inl first) =
-      inl (inr (inr (inr (inr (inr (inl (read_so_far uri (texts_carried read) (told_terms told) Unsigned [], left_told Unsigned [], first)))))))
+      inl (inr (inr (inr (inr (inr (inl (read_so_far uri (texts_carried read) (stated_terms stated) Unsigned [], left_stated Unsigned [], first)))))))
   refused_names fault (inr room) = inr room
 
   module _ (named : PassesNames read.place asked.settings.session_token_mode asked.limits asked.request.headers (carried_names read.names.now) (Ok tt)) where
-    left_names : (form : DoorPayload) (secret : List ℕ) → HasNames asked (read_so_far uri (texts_carried read) (told_terms told) form secret)
-    left_names form secret = record { told = left_told form secret; named = named }
+    left_names : (form : DoorPayload) (secret : List ℕ) → HasNames asked (read_so_far uri (texts_carried read) (stated_terms stated) form secret)
+    left_names form secret = record { stated = left_stated form secret; named = named }
 
     -- it is too early, or too late
-    pub refused_time : (fault : DoorFault) → TestsTime read.place asked.limits asked.now (told_terms told) (Err fault) → AnswersDoor asked (Err fault)
+    pub refused_time : (fault : DoorFault) → TestsTime read.place asked.limits asked.now (stated_terms stated) (Err fault) → AnswersDoor asked (Err fault)
     refused_time fault first =
-        inl (inr (inr (inr (inr (inr (inr (inl (read_so_far uri (texts_carried read) (told_terms told) Unsigned [], left_names Unsigned [], first))))))))
+        inl (inr (inr (inr (inr (inr (inr (inl (read_so_far uri (texts_carried read) (stated_terms stated) Unsigned [], left_names Unsigned [], first))))))))
 
-    module _ (until : ℤ) (timed : TestsTime read.place asked.limits asked.now (told_terms told) (Ok until)) where
-      left_time : (form : DoorPayload) (secret : List ℕ) → IsTimely asked (read_so_far uri (texts_carried read) (told_terms told) form secret)
+    module _ (until : ℤ) (timed : TestsTime read.place asked.limits asked.now (stated_terms stated) (Ok until)) where
+      left_time : (form : DoorPayload) (secret : List ℕ) → IsTimely asked (read_so_far uri (texts_carried read) (stated_terms stated) form secret)
       left_time form secret = record { names = left_names form secret; timed = timed.0 }
 
       -- the payload's header isn't one
       pub refused_payload : (fault : DoorFault) → ReadsPayload read.place asked.settings.payload_checksum_kind asked.request.headers (Err fault)
           → AnswersDoor asked (Err fault)
       refused_payload fault first =
-          inl (inr (inr (inr (inr (inr (inr (inr (inl (read_so_far uri (texts_carried read) (told_terms told) Unsigned [], left_time Unsigned [], first)))))))))
+          inl (inr (inr (inr (inr (inr (inr (inr (inl (read_so_far uri (texts_carried read) (stated_terms stated) Unsigned [], left_time Unsigned [], first)))))))))
 
       module _ (form : DoorPayload) (shown : ReadsPayload read.place asked.settings.payload_checksum_kind asked.request.headers (Ok form)) where
-        left_payload : (secret : List ℕ) → HasPayload asked (read_so_far uri (texts_carried read) (told_terms told) form secret)
+        left_payload : (secret : List ℕ) → HasPayload asked (read_so_far uri (texts_carried read) (stated_terms stated) form secret)
         left_payload secret = record { timely = left_time form secret; shown = shown.0; form = shown.1 }
 
         -- the key isn't known
-        pub refused_key : (fault : DoorFault) → FindsSecret (asked.secrets told.key_id.now) (Err fault) → AnswersDoor asked (Err fault)
+        pub refused_key : (fault : DoorFault) → FindsSecret (asked.secrets stated.key_id.now) (Err fault) → AnswersDoor asked (Err fault)
         refused_key fault (inl (none, is)) =
-            inl (inr (inr (inr (inr (inr (inr (inr (inr (inl (read_so_far uri (texts_carried read) (told_terms told) form [], left_payload [], none, is))))))))))
+            inl (inr (inr (inr (inr (inr (inr (inr (inr (inl (read_so_far uri (texts_carried read) (stated_terms stated) form [], left_payload [], none, is))))))))))
         refused_key fault (inr room) = inr room
 
-        module _ (secret : String Global) (known : FindsSecret (asked.secrets told.key_id.now) (Ok secret)) where
-          left_key : HasKey asked (read_so_far uri (texts_carried read) (told_terms told) form (string_bytes secret))
+        module _ (secret : String Global) (known : FindsSecret (asked.secrets stated.key_id.now) (Ok secret)) where
+          left_key : HasKey asked (read_so_far uri (texts_carried read) (stated_terms stated) form (string_bytes secret))
           left_key = record { payload = left_payload (string_bytes secret); known = known }
 
           abbrev Last : Result (Unit {0}) DoorFault → Type 0
           Last result =
               TestsLast asked.request asked.settings asked.body (record { secret = string_bytes secret; region = asked.region; name = asked.name }) form
-              (door_seal (texts_carried read) (told_terms told)) uri result
+              (door_seal (texts_carried read) (stated_terms stated)) uri result
 
           -- the payload or the signature is another one
           pub refused_last : (fault : DoorFault) → Last (Err fault) → AnswersDoor asked (Err fault)
           refused_last fault (inl (other, is)) =
               inl (inr (inr (inr (inr (inr (inr (inr (inr (inr
-              (read_so_far uri (texts_carried read) (told_terms told) form (string_bytes secret), left_key, inl (other, is)))))))))))
+              (read_so_far uri (texts_carried read) (stated_terms stated) form (string_bytes secret), left_key, inl (other, is)))))))))))
           refused_last fault (inr (inl (same, differs, is))) =
               inl (inr (inr (inr (inr (inr (inr (inr (inr (inr
-              (read_so_far uri (texts_carried read) (told_terms told) form (string_bytes secret), left_key, inr (same, inl (differs, is))))))))))))
+              (read_so_far uri (texts_carried read) (stated_terms stated) form (string_bytes secret), left_key, inr (same, inl (differs, is))))))))))))
           refused_last fault (inr (inr room)) = inr room
 
           -- no test is met
-          pub admits : (admitted : Admitted) → Last (Ok tt) → TellsRequest (texts_carried read) (told_terms told) until form admitted
+          pub admits : (admitted : Admitted) → Last (Ok tt) → AdmitsAs (texts_carried read) (stated_terms stated) until form admitted
               → AnswersDoor asked (Ok admitted)
           admits admitted last tells_request = record {
-            reading = read_so_far uri (texts_carried read) (told_terms told) form (string_bytes secret);
+            reading = read_so_far uri (texts_carried read) (stated_terms stated) form (string_bytes secret);
             key = left_key;
             own = last.1;
             last = (last.0, (λ differs. differs last.1, tt));
-            told = record {
+            stated = record {
               key_id = tells_request.key_id;
               place = tells_request.place;
               at = tells_request.at;

@@ -1,4 +1,4 @@
--- The first test of what the texts tell that is met.
+-- The first test of what the texts state that is met.
 use Rattle.std.proofs.Common.{◌≡◌, ℕ, ◌<◌, ◌≤◌, List, [], ◌∷◌, ◌++◌, Option, Some, None, Ok, Err, inl, inr, refl, sym, ap, ◌∙◌, arith}
 use Rattle.std.specs.Prelude.{codes}
 use Rattle.smithy_core.specs.Moment.{Instant}
@@ -9,7 +9,7 @@ use Rattle.request_check.proofs.SealLemmas.{absent}
 use Rattle.request_check.proofs.StampLemmas.{stamped_once}
 use Rattle.request_door.specs.DoorCarried.{DoorTexts}
 use Rattle.request_door.specs.DoorOrder.{IsFirstMet, NoneMet}
-use Rattle.request_door.specs.DoorTerms.{LacksEnd, MeetsTerm, PassesScope, ReadsDoorTerms, TellsTerms, term_tests, told_seconds}
+use Rattle.request_door.specs.DoorTerms.{LacksEnd, MeetsTerm, PassesScope, ReadsDoorTerms, TextsState, term_tests, stated_seconds}
 use Rattle.request_door.specs.declared.fault.DoorFault.{DoorFault}
 use Rattle.request_door.specs.declared.fault.DoorFault.TheVariants.{BadDate, OtherDay, BadExpiry, LongExpiry}
 use Rattle.request_door.specs.declared.limits.Limits.{Limits}
@@ -47,18 +47,18 @@ module _ (region name : List ℕ) (limits : Limits) (texts : DoorTexts) where
             let same : at ≡ other = stamped_once at other stamped.0 stamp.0 (stamped.1 ∙ sym stamp.1) in
             uncut key_id (cut ∙ ap (λ (t : Instant). key_id ++ codes "/" ++ scope t region name) same)
 
-        pub bad_expiry : told_seconds texts.place texts.expires ≡ None → ReadsDoorTerms region name limits texts (Err BadExpiry)
+        pub bad_expiry : stated_seconds texts.place texts.expires ≡ None → ReadsDoorTerms region name limits texts (Err BadExpiry)
         bad_expiry none = behind BadExpiry (inr (same_day, inl (none, refl)))
 
-        module _ (seconds : ℕ) (told : told_seconds texts.place texts.expires ≡ Some seconds) where
-          spelled : told_seconds texts.place texts.expires ≡ None → ⊥
-          spelled none = absent (sym none ∙ told)
+        module _ (seconds : ℕ) (stated : stated_seconds texts.place texts.expires ≡ Some seconds) where
+          spelled : stated_seconds texts.place texts.expires ≡ None → ⊥
+          spelled none = absent (sym none ∙ stated)
 
           pub long_expiry : limits.expiry < seconds → ReadsDoorTerms region name limits texts (Err LongExpiry)
-          long_expiry over = behind LongExpiry (inr (same_day, inr (spelled, inl ((seconds, told, over), refl))))
+          long_expiry over = behind LongExpiry (inr (same_day, inr (spelled, inl ((seconds, stated, over), refl))))
 
           short : seconds ≤ limits.expiry → MeetsTerm region name limits texts LongExpiry → ⊥
-          short within (other, is, over) = by (same (sym told ∙ is))
+          short within (other, is, over) = by (same (sym stated ∙ is))
             where
               same : ◌≡◌ {A = Option ℕ} (Some seconds) (Some other) → seconds ≡ other
               same e = cc
@@ -66,9 +66,9 @@ module _ (region name : List ℕ) (limits : Limits) (texts : DoorTexts) where
               by : seconds ≡ other → ⊥
               by e = omega arith
 
-          pub tells : seconds ≤ limits.expiry → NoneMet (MeetsTerm region name limits texts) term_tests
-              × TellsTerms region name texts (record { key_id = key_id; at = at; seconds = seconds })
-          tells within = (
+          pub states : seconds ≤ limits.expiry → NoneMet (MeetsTerm region name limits texts) term_tests
+              × TextsState region name texts (record { key_id = key_id; at = at; seconds = seconds })
+          states within = (
             (dated, (scoped.0, (scoped.1.0, (scoped.1.1.0, (same_day, (spelled, (short within, tt))))))),
-            record { moment = stamped.0; date = stamped.1; credential = cut; expires = told },
+            record { moment = stamped.0; date = stamped.1; credential = cut; expires = stated },
           )

@@ -15,7 +15,7 @@ use Rattle.request_check.specs.Recomputation.{IsSentOf, IsSignedAsSent}
 use Rattle.request_door.specs.DoorCarried.{DoorTexts, are_several, has_parameters}
 use Rattle.request_door.specs.DoorPayloads.{IsOtherPayload, shown_form, shown_payload, signed_payload}
 use Rattle.request_door.specs.DoorTerms.{DoorTerms, good_from, good_until}
-use Rattle.request_door.specs.Doors.{DoorInput, TellsRequest}
+use Rattle.request_door.specs.Doors.{DoorInput, AdmitsAs}
 use Rattle.request_door.specs.declared.admitted.Admitted.{Admitted}
 use Rattle.request_door.specs.declared.fault.DoorFault.{DoorFault}
 use Rattle.request_door.specs.declared.fault.DoorFault.TheVariants.{NoMemory}
@@ -43,7 +43,7 @@ case_texts place c = record {
   signature = signature_of c;
 }
 
--- what they tell: the case's key id, the second of its moment, and its expiry
+-- what they state: the case's key id, the second of its moment, and its expiry
 abbrev pub case_terms : SignatureLocation → Case → DoorTerms
 case_terms place c = record { key_id = c.key_id; at = floor_secs c.at; seconds = case_seconds place c.settings.expires_in }
 
@@ -80,9 +80,9 @@ pub record IsDueAtDoor (asked : DoorInput) (c : Case) (form : DoorPayload) : Typ
   pub begun : good_from c.settings.signature_location asked.limits (case_terms c.settings.signature_location c) ≤ℤ asked.now.secs
   pub lasts : asked.now.secs <ℤ good_until c.settings.signature_location asked.limits (case_terms c.settings.signature_location c)
 
--- it is let in, and this case is told, unless memory ran out
+-- it is let in, and this case is said, unless memory ran out
 abbrev pub IsLetIn : SignatureLocation → Limits → Case → DoorPayload → Result Admitted DoorFault → Type 0
-IsLetIn place limits c form (Ok admitted) = TellsRequest (case_texts place c) (case_terms place c) (good_until place limits (case_terms place c)) form admitted
+IsLetIn place limits c form (Ok admitted) = AdmitsAs (case_texts place c) (case_terms place c) (good_until place limits (case_terms place c)) form admitted
 IsLetIn place limits c form (Err fault) = fault ≡ NoMemory
 
 -- each signed request that is due is let in

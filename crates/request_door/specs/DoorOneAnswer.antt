@@ -5,8 +5,8 @@ use Rattle.request_door.specs.declared.admitted.Admitted.{Admitted}
 use Rattle.request_door.specs.declared.fault.DoorFault.{DoorFault}
 use Rattle.request_door.specs.declared.fault.DoorFault.TheVariants.{NoMemory}
 
--- the same is told of an admitted request
-pub record IsToldSame (admitted other : Admitted) : Type 0 where
+-- the same is said of an admitted request
+pub record IsSameAdmitted (admitted other : Admitted) : Type 0 where
   pub key_id : string_bytes other.key_id ≡ string_bytes admitted.key_id
   pub place : other.place ≡ admitted.place
   pub at : other.at ≡ admitted.at
@@ -17,7 +17,7 @@ pub record IsToldSame (admitted other : Admitted) : Type 0 where
 
 -- the answers are the same, unless memory ran out
 abbrev pub IsSameAtDoor : Result Admitted DoorFault → Result Admitted DoorFault → Type 0
-IsSameAtDoor (Ok admitted) (Ok other) = IsToldSame admitted other
+IsSameAtDoor (Ok admitted) (Ok other) = IsSameAdmitted admitted other
 IsSameAtDoor (Ok admitted) (Err other) = other ≡ NoMemory
 IsSameAtDoor (Err fault) (Ok other) = fault ≡ NoMemory
 IsSameAtDoor (Err fault) (Err other) = (other ≡ fault) ⊎ ((fault ≡ NoMemory) ⊎ (other ≡ NoMemory))

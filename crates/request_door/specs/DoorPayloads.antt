@@ -61,7 +61,7 @@ signed_payload (Some text) form body = text
 abbrev pub payload_tests : List DoorFault
 payload_tests = RepeatedPayload ∷ BadPayload ∷ []
 
--- a test of the payload's header: it is there more than once, or it tells no form
+-- a test of the payload's header: it is there more than once, or it states no form
 abbrev pub MeetsPayload : SignatureLocation → PayloadChecksumKind → List Pair → DoorFault → Type 0
 MeetsPayload place kind headers RepeatedPayload = are_several (named_values headers (codes "x-amz-content-sha256")) ≡ true
 MeetsPayload place kind headers BadPayload = shown_form place kind (shown_payload headers) ≡ None

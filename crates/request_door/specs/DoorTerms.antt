@@ -1,4 +1,4 @@
--- What the texts of a signature tell, and when a request is good.
+-- What the texts of a signature state, and when a request is good.
 use Rattle.std.specs.Prelude.{◌≡◌, ◌⊎◌, ℕ, ◌<◌, List, [], ◌∷◌, ◌++◌, codes, Option, Some, None, Result, Ok, Err, ℤ, pos, ◌+ℤ◌, ◌-ℤ◌, ◌≤ℤ◌, ◌<ℤ◌}
 use Rattle.smithy_core.specs.Civil.{stamp}
 use Rattle.smithy_core.specs.Moment.{Instant}
@@ -15,20 +15,20 @@ use Rattle.request_door.specs.declared.fault.DoorFault.TheVariants.{BadDate, Bad
 use Rattle.request_door.specs.declared.limits.Limits.{Limits}
 use Rattle.request_door.specs.declared.terms.Terms.{Terms}
 
--- what the texts tell: the key's id, the moment of signing, and in query form for how many seconds the request is good
+-- what the texts state: the key's id, the moment of signing, and in query form for how many seconds the request is good
 pub record DoorTerms : Type 0 where
   pub key_id : List ℕ
   pub at : Instant
   pub seconds : ℕ
 
--- what was told
-abbrev pub told_terms : Terms → DoorTerms
-told_terms read = record { key_id = read.key_id.now; at = read.at; seconds = read.seconds }
+-- what was stated
+abbrev pub stated_terms : Terms → DoorTerms
+stated_terms read = record { key_id = read.key_id.now; at = read.at; seconds = read.seconds }
 
 -- the number of seconds that an expiry spells; in header form there is none to read
-abbrev pub told_seconds : SignatureLocation → List ℕ → Option ℕ
-told_seconds Headers text = Some 0
-told_seconds QueryParams text = spelled_seconds text
+abbrev pub stated_seconds : SignatureLocation → List ℕ → Option ℕ
+stated_seconds Headers text = Some 0
+stated_seconds QueryParams text = spelled_seconds text
 
 -- a text doesn't end so
 abbrev pub LacksEnd : List ℕ → List ℕ → Type 0
@@ -46,11 +46,11 @@ service_end name = codes "/" ++ name ++ scope_end
 abbrev pub region_end : List ℕ → List ℕ → List ℕ
 region_end region name = codes "/" ++ region ++ codes "/" ++ name ++ scope_end
 
--- the tests of what the texts tell, in their order
+-- the tests of what the texts state, in their order
 abbrev pub term_tests : List DoorFault
 term_tests = BadDate ∷ BadCredential ∷ OtherService ∷ OtherRegion ∷ OtherDay ∷ BadExpiry ∷ LongExpiry ∷ []
 
--- a test of what the texts tell: the date is no moment's stamp; the credential doesn't end with the word of a scope, or with this service's name before it,
+-- a test of what the texts state: the date is no moment's stamp; the credential doesn't end with the word of a scope, or with this service's name before it,
 -- or with the region before that, or with a slash and the whole scope of the date's day; the expiry is no number of 64 bits, or it is over the limit
 abbrev pub MeetsTerm : List ℕ → List ℕ → Limits → DoorTexts → DoorFault → Type 0
 MeetsTerm region name limits texts BadDate = ReadsStamp texts.date None
@@ -58,8 +58,8 @@ MeetsTerm region name limits texts BadCredential = LacksEnd scope_end texts.cred
 MeetsTerm region name limits texts OtherService = LacksEnd (service_end name) texts.credential
 MeetsTerm region name limits texts OtherRegion = LacksEnd (region_end region name) texts.credential
 MeetsTerm region name limits texts OtherDay = (at : Instant) × ReadsStamp texts.date (Some at) × CutsScope (scope at region name) texts.credential None
-MeetsTerm region name limits texts BadExpiry = told_seconds texts.place texts.expires ≡ None
-MeetsTerm region name limits texts LongExpiry = (seconds : ℕ) × (told_seconds texts.place texts.expires ≡ Some seconds) × (limits.expiry < seconds)
+MeetsTerm region name limits texts BadExpiry = stated_seconds texts.place texts.expires ≡ None
+MeetsTerm region name limits texts LongExpiry = (seconds : ℕ) × (stated_seconds texts.place texts.expires ≡ Some seconds) × (limits.expiry < seconds)
 MeetsTerm region name limits texts _ = ⊥
 
 -- the tests of a credential's end
@@ -78,17 +78,17 @@ abbrev pub PassesScope : List ℕ → List ℕ → List ℕ → Result (Unit {0}
 PassesScope region name credential (Ok _) = NoneMet (MeetsScope region name credential) scope_tests
 PassesScope region name credential (Err fault) = IsFirstMet (MeetsScope region name credential) scope_tests fault ⊎ (fault ≡ NoMemory)
 
--- the texts tell these terms: the date is the stamp of the moment, the credential is the key's id, a slash and the scope of the moment, of the region and
+-- the texts state these terms: the date is the stamp of the moment, the credential is the key's id, a slash and the scope of the moment, of the region and
 -- of the name, and the expiry spells the seconds
-pub record TellsTerms (region name : List ℕ) (texts : DoorTexts) (terms : DoorTerms) : Type 0 where
+pub record TextsState (region name : List ℕ) (texts : DoorTexts) (terms : DoorTerms) : Type 0 where
   pub moment : IsWholeSecond terms.at
   pub date : stamp terms.at ≡ texts.date
   pub credential : texts.credential ≡ terms.key_id ++ codes "/" ++ scope terms.at region name
-  pub expires : told_seconds texts.place texts.expires ≡ Some terms.seconds
+  pub expires : stated_seconds texts.place texts.expires ≡ Some terms.seconds
 
--- what the texts tell, where no test of them is met, and else the first that is, unless memory ran out
+-- what the texts state, where no test of them is met, and else the first that is, unless memory ran out
 abbrev pub ReadsDoorTerms : List ℕ → List ℕ → Limits → DoorTexts → Result Terms DoorFault → Type 0
-ReadsDoorTerms region name limits texts (Ok read) = NoneMet (MeetsTerm region name limits texts) term_tests × TellsTerms region name texts (told_terms read)
+ReadsDoorTerms region name limits texts (Ok read) = NoneMet (MeetsTerm region name limits texts) term_tests × TextsState region name texts (stated_terms read)
 ReadsDoorTerms region name limits texts (Err fault) = IsFirstMet (MeetsTerm region name limits texts) term_tests fault ⊎ (fault ≡ NoMemory)
 
 -- the expiry of a seal with these terms: in header form there is none

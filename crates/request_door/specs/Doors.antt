@@ -1,4 +1,4 @@
--- A service's door: the tests of a signed request in their order, and what is told of one that is admitted.
+-- A service's door: the tests of a signed request in their order, and what is said of one that is admitted.
 use Rattle.std.specs.Prelude.{◌≡◌, ◌≢◌, ◌⊎◌, ℕ, List, [], ◌∷◌, IsSome, Option, Some, None, Result, Ok, Err, ℤ, String, string_bytes}
 use Rattle.std.specs.declared.alloc.Global.{Global}
 use Rattle.http_uri.specs.declared.uri.Uri.{Uri}
@@ -16,7 +16,7 @@ use Rattle.request_door.specs.DoorNames.{MeetsName, name_tests}
 use Rattle.request_door.specs.DoorOrder.{IsFirstMet, NoneMet}
 use Rattle.request_door.specs.DoorPayloads.{IsOtherPayload, MeetsPayload, payload_tests, shown_form, shown_payload, signed_payload}
 use Rattle.request_door.specs.DoorSignature.{seal_signature}
-use Rattle.request_door.specs.DoorTerms.{DoorTerms, MeetsTerm, MeetsTime, ReadsDoorTerms, TellsTerms, door_seal, good_until, term_tests, time_tests}
+use Rattle.request_door.specs.DoorTerms.{DoorTerms, MeetsTerm, MeetsTime, ReadsDoorTerms, TextsState, door_seal, good_until, term_tests, time_tests}
 use Rattle.request_door.specs.declared.admitted.Admitted.{Admitted}
 use Rattle.request_door.specs.declared.carried.Carried.{Carried}
 use Rattle.request_door.specs.declared.door.Asked.{Asked}
@@ -50,7 +50,7 @@ door_input secrets asked = record {
   limits = asked.limits.now;
 }
 
--- what is read of a request: its target, the texts of its signature, what these tell, the form of its payload, and the secret of its key
+-- what is read of a request: its target, the texts of its signature, what these state, the form of its payload, and the secret of its key
 pub record DoorReading : Type 0 where
   pub uri : Uri
   pub texts : DoorTexts
@@ -87,15 +87,15 @@ pub record HasCarriedTexts (asked : DoorInput) (reading : DoorReading) : Type 0 
   pub whole : NoneMet (MeetsCarried reading.texts.place asked.request.headers (decoded (target_of reading.uri))) (tests_of reading.texts.place)
   pub carried : CarriesAt reading.texts.place asked.request.headers (decoded (target_of reading.uri)) reading.texts
 
--- and they tell these terms
-pub record HasTold (asked : DoorInput) (reading : DoorReading) : Type 0 where
+-- and they state these terms
+pub record HasStated (asked : DoorInput) (reading : DoorReading) : Type 0 where
   pub texts : HasCarriedTexts asked reading
   pub good : NoneMet (MeetsTerm asked.region asked.name asked.limits reading.texts) term_tests
-  pub told : TellsTerms asked.region asked.name reading.texts reading.terms
+  pub stated : TextsState asked.region asked.name reading.texts reading.terms
 
 -- and the names are in order
 pub record HasNames (asked : DoorInput) (reading : DoorReading) : Type 0 where
-  pub told : HasTold asked reading
+  pub stated : HasStated asked reading
   pub named : NoneMet (MeetsName reading.texts.place asked.settings.session_token_mode asked.limits asked.request.headers (carried_names reading.texts.names)) name_tests
 
 -- and the moment lies in the request's time
@@ -146,7 +146,7 @@ RefusesCarried asked fault =
     (reading : DoorReading) × HasForm asked reading
     × IsFirstMet (MeetsCarried reading.texts.place asked.request.headers (decoded (target_of reading.uri))) (tests_of reading.texts.place) fault
 
--- 5: what it tells is outside its form, or another scope
+-- 5: what it states is outside its form, or another scope
 abbrev pub RefusesTerms : DoorInput → DoorFault → Type 0
 RefusesTerms asked fault =
     (reading : DoorReading) × HasCarriedTexts asked reading × IsFirstMet (MeetsTerm asked.region asked.name asked.limits reading.texts) term_tests fault
@@ -154,7 +154,7 @@ RefusesTerms asked fault =
 -- 6: the names aren't as they have to be
 abbrev pub RefusesNames : DoorInput → DoorFault → Type 0
 RefusesNames asked fault =
-    (reading : DoorReading) × HasTold asked reading
+    (reading : DoorReading) × HasStated asked reading
     × IsFirstMet (MeetsName reading.texts.place asked.settings.session_token_mode asked.limits asked.request.headers (carried_names reading.texts.names)) name_tests fault
 
 -- 7: it is too early, or too late
@@ -182,8 +182,8 @@ RefusesFirst asked fault =
     RefusesDoorTarget asked fault ⊎ (RefusesHeader asked fault ⊎ (RefusesForm asked fault ⊎ (RefusesCarried asked fault ⊎ (RefusesTerms asked fault
     ⊎ (RefusesNames asked fault ⊎ (RefusesTime asked fault ⊎ (RefusesPayload asked fault ⊎ (RefusesKey asked fault ⊎ RefusesLast asked fault))))))))
 
--- what is told of a request with these texts, terms, end of its time and form of its payload
-pub record TellsRequest (texts : DoorTexts) (terms : DoorTerms) (ends : ℤ) (form : DoorPayload) (admitted : Admitted) : Type 0 where
+-- what is said of a request with these texts, terms, end of its time and form of its payload
+pub record AdmitsAs (texts : DoorTexts) (terms : DoorTerms) (ends : ℤ) (form : DoorPayload) (admitted : Admitted) : Type 0 where
   pub key_id : string_bytes admitted.key_id ≡ terms.key_id
   pub place : admitted.place ≡ texts.place
   pub at : admitted.at ≡ terms.at
@@ -192,15 +192,15 @@ pub record TellsRequest (texts : DoorTexts) (terms : DoorTerms) (ends : ℤ) (fo
   pub payload : admitted.payload ≡ form
   pub signature : string_bytes admitted.signature ≡ texts.signature
 
--- no test is met, the signature is the request's own, and this is told
+-- no test is met, the signature is the request's own, and this is said
 pub record IsAdmitted (asked : DoorInput) (admitted : Admitted) : Type 0 where
   pub reading : DoorReading
   pub key : HasKey asked reading
   pub own : reading.texts.signature ≡ door_signature asked reading
   pub last : NoneMet (MeetsLast asked reading) last_tests
-  pub told : TellsRequest reading.texts reading.terms (good_until reading.texts.place asked.limits reading.terms) reading.form admitted
+  pub stated : AdmitsAs reading.texts reading.terms (good_until reading.texts.place asked.limits reading.terms) reading.form admitted
 
--- what is told of a request that no test refuses, and else the fault of the first test that is met, unless memory runs out
+-- what is said of a request that no test refuses, and else the fault of the first test that is met, unless memory runs out
 abbrev pub AnswersDoor : DoorInput → Result Admitted DoorFault → Type 0
 AnswersDoor asked (Ok admitted) = IsAdmitted asked admitted
 AnswersDoor asked (Err fault) = RefusesFirst asked fault ⊎ (fault ≡ NoMemory)
@@ -240,7 +240,7 @@ pub record CarriesTexts (request : HttpRequest) (uri : Uri) (read : Carried) : T
   pub accepted : AcceptsTarget request (Ok uri)
   pub reads : ReadsCarried request.headers (decoded (target_of uri)) (Ok read)
 
--- and they tell these terms
-pub record CarriesTerms (request : HttpRequest) (uri : Uri) (region name : List ℕ) (limits : Limits) (read : Carried) (told : Terms) : Type 0 where
+-- and they state these terms
+pub record CarriesTerms (request : HttpRequest) (uri : Uri) (region name : List ℕ) (limits : Limits) (read : Carried) (stated : Terms) : Type 0 where
   pub texts : CarriesTexts request uri read
-  pub tells : ReadsDoorTerms region name limits (texts_carried read) (Ok told)
+  pub states : ReadsDoorTerms region name limits (texts_carried read) (Ok stated)

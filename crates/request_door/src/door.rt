@@ -5,8 +5,8 @@ ghost use Rattle.smithy_http.specs.Target.{target_of};
 ghost use Rattle.sigv4.specs.Settings.{settings_of};
 ghost use Rattle.request_check.specs.Recomputed.{unfit_sent};
 ghost use Rattle.request_door.specs.DoorCarried.{texts_carried};
-ghost use Rattle.request_door.specs.DoorTerms.{door_seal, told_terms};
-ghost use Rattle.request_door.specs.Doors.{AcceptsTarget, AnswersDoor, CarriesTerms, CarriesTexts, FindsSecret, HasPairs, TellsRequest, TestsLast, door_input};
+ghost use Rattle.request_door.specs.DoorTerms.{door_seal, stated_terms};
+ghost use Rattle.request_door.specs.Doors.{AcceptsTarget, AnswersDoor, CarriesTerms, CarriesTexts, FindsSecret, HasPairs, AdmitsAs, TestsLast, door_input};
 
 use crate::admitted::Admitted;
 use crate::carried::{Carried, read_carried};
@@ -15,7 +15,7 @@ use crate::keys::Keys;
 use crate::limits::Limits;
 use crate::names::test_names;
 use crate::payload::{DoorPayload, read_payload, shown_payload, signed_payload};
-use crate::signature::{test_signature, told_seal};
+use crate::signature::{stated_seal, test_signature};
 use crate::terms::{Terms, read_terms, timely_until};
 use http_uri::Uri;
 use request_check::parts::query_pairs;
@@ -167,7 +167,7 @@ fn admit_terms<K: Keys>(
     let secret = known_secret(alloc, keys, terms.key_id)?;
     let secret = secret.as_str();
     test_last(alloc, asked, texts, terms, form, secret)?;
-    let admitted = told(alloc, texts, terms, until, form)?;
+    let admitted = admit_as(alloc, texts, terms, until, form)?;
     Ok(admitted)
 }
 
@@ -215,12 +215,12 @@ fn test_last(
     requires { IsInYears terms.now.at }
     ensures { TestsLast asked.entry.now.request.now (settings_of asked.entry.now.settings.now) asked.entry.now.body.now
         (record { secret = secret.now; region = asked.entry.now.region.now; name = asked.entry.now.name.now }) form
-        (door_seal (texts_carried texts.now) (told_terms terms.now)) asked.entry.now.uri.now result }
+        (door_seal (texts_carried texts.now) (stated_terms terms.now)) asked.entry.now.uri.now result }
 {
     let (request, settings) = (asked.request, asked.settings);
     let payload = signed_payload(alloc, shown_payload(&request.headers), form, asked.body)?;
     let payload = SignableBody::Precomputed(payload);
-    let seal = told_seal(alloc, texts, terms)?;
+    let seal = stated_seal(alloc, texts, terms)?;
     test_signature(
         alloc,
         request,
@@ -235,14 +235,14 @@ fn test_last(
 }
 
 // What is answered for an admitted request.
-fn told(
+fn admit_as(
     alloc: Global,
     texts: &Carried<'_>,
     terms: &Terms<'_>,
     until: i128,
     form: DoorPayload,
 ) -> Mem<Admitted>
-    ensures { IfOk result (TellsRequest (texts_carried texts.now) (told_terms terms.now) until form) }
+    ensures { IfOk result (AdmitsAs (texts_carried texts.now) (stated_terms terms.now) until form) }
 {
     Ok(Admitted {
         key_id: String::from_str(alloc, terms.key_id)?,

@@ -4,7 +4,7 @@ ghost use Rattle.sigv4.specs.Body.{payload_text};
 ghost use Rattle.sigv4.specs.Settings.{settings_of};
 ghost use Rattle.request_door.specs.DoorCarried.{texts_carried};
 ghost use Rattle.request_door.specs.DoorSignature.{ComparesSeals, TestsSeal};
-ghost use Rattle.request_door.specs.DoorTerms.{door_seal, seal_expiry, told_terms};
+ghost use Rattle.request_door.specs.DoorTerms.{door_seal, seal_expiry, stated_terms};
 
 use crate::carried::Carried;
 use crate::fault::DoorFault;
@@ -18,8 +18,8 @@ use smithy_core::{HttpRequest, Mem};
 use std::alloc::Global;
 
 /// The seal that these texts are, with these terms.
-pub(crate) fn told_seal(alloc: Global, texts: &Carried<'_>, terms: &Terms<'_>) -> Mem<Seal>
-    ensures { IfOk result (λ seal. seal ≡ door_seal (texts_carried texts.now) (told_terms terms.now)) }
+pub(crate) fn stated_seal(alloc: Global, texts: &Carried<'_>, terms: &Terms<'_>) -> Mem<Seal>
+    ensures { IfOk result (λ seal. seal ≡ door_seal (texts_carried texts.now) (stated_terms terms.now)) }
 {
     let key_id = String::from_str(alloc, terms.key_id)?;
     let names = String::from_str(alloc, texts.names)?;
@@ -30,7 +30,7 @@ pub(crate) fn told_seal(alloc: Global, texts: &Carried<'_>, terms: &Terms<'_>) -
 
 // The expiry of a seal with these terms.
 fn seal_expiry(place: SignatureLocation, terms: &Terms<'_>) -> Option<u64>
-    ensures { result ≡ seal_expiry place (told_terms terms.now) }
+    ensures { result ≡ seal_expiry place (stated_terms terms.now) }
 {
     match place {
         SignatureLocation::Headers => None,

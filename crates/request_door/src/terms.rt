@@ -1,6 +1,6 @@
 ghost use Rattle.std.specs.Prelude.{◌≡◌, ◌++◌, codes, IfOk, MatchBool, string_bytes};
 ghost use Rattle.request_door.specs.DoorCarried.{texts_carried};
-ghost use Rattle.request_door.specs.DoorTerms.{LacksEnd, PassesScope, ReadsDoorTerms, TestsTime, good_from, good_until, region_end, service_end, told_seconds, told_terms};
+ghost use Rattle.request_door.specs.DoorTerms.{LacksEnd, PassesScope, ReadsDoorTerms, TestsTime, good_from, good_until, region_end, service_end, stated_seconds, stated_terms};
 
 use crate::carried::Carried;
 use crate::fault::DoorFault;
@@ -41,7 +41,7 @@ pub(crate) fn read_terms<'a>(
     let Some(key_id) = key_id_before(texts.credential, scope.as_str()) else {
         return Err(DoorFault::OtherDay);
     };
-    let Some(seconds) = told_seconds(texts) else {
+    let Some(seconds) = stated_seconds(texts) else {
         return Err(DoorFault::BadExpiry);
     };
     if seconds > limits.expiry {
@@ -106,8 +106,8 @@ fn region_end(alloc: Global, region: &str, name: &str) -> Mem<String>
 }
 
 // The number of seconds that an expiry spells.
-fn told_seconds(texts: &Carried<'_>) -> Option<u64>
-    ensures { result ≡ told_seconds texts.now.place texts.now.expires.now }
+fn stated_seconds(texts: &Carried<'_>) -> Option<u64>
+    ensures { result ≡ stated_seconds texts.now.place texts.now.expires.now }
 {
     match texts.place {
         SignatureLocation::Headers => Some(0),
@@ -122,7 +122,7 @@ pub(crate) fn timely_until(
     now: Moment,
     terms: &Terms<'_>,
 ) -> Result<i128, DoorFault>
-    ensures { TestsTime place limits.now now (told_terms terms.now) result }
+    ensures { TestsTime place limits.now now (stated_terms terms.now) result }
 {
     let second = i128::from(now.secs());
     if second < good_from(place, limits, terms) {
@@ -137,7 +137,7 @@ pub(crate) fn timely_until(
 
 // The first second in which a request is good.
 fn good_from(place: SignatureLocation, limits: &Limits, terms: &Terms<'_>) -> i128
-    ensures { result ≡ good_from place limits.now (told_terms terms.now) }
+    ensures { result ≡ good_from place limits.now (stated_terms terms.now) }
 {
     match place {
         SignatureLocation::Headers => i128::from(terms.at.secs()) - i128::from(limits.skew),
@@ -147,7 +147,7 @@ fn good_from(place: SignatureLocation, limits: &Limits, terms: &Terms<'_>) -> i1
 
 // The first second in which it isn't good any more.
 fn good_until(place: SignatureLocation, limits: &Limits, terms: &Terms<'_>) -> i128
-    ensures { result ≡ good_until place limits.now (told_terms terms.now) }
+    ensures { result ≡ good_until place limits.now (stated_terms terms.now) }
 {
     let at = i128::from(terms.at.secs());
     match place {

@@ -41,12 +41,12 @@ returns-in_err-test_last g c =
     (refused_last asked _ _ _ c.requires c.in_ok-test_names.ensures _ c.in_ok-until.ensures _ c.in_ok-form.ensures c.in_ok-secret.secret c.in_ok-secret.ensures _ last)
 
 pub test_last-requires : goal.test_last-requires
-test_last-requires g c = c.requires.tells.1.moment.in_years
+test_last-requires g c = c.requires.states.1.moment.in_years
 
 pub returns : goal.returns
 returns g c =
     let asked = door_input (g.K.Keys.secrets c.args.keys.now) c.args.asked.now in
     let last = rw c.as_str-secret.ensures.value at c.in_ok-test_last.ensures in
     let fits : SFits w128 c.in_ok-until.until = search rules in
-    let told_so = rw (to_z-of_z w128 c.in_ok-until.until fits) at c.in_ok-admitted.ensures in
-    admits asked _ _ _ c.requires c.in_ok-test_names.ensures _ c.in_ok-until.ensures _ c.in_ok-form.ensures c.in_ok-secret.secret c.in_ok-secret.ensures _ last told_so
+    let stated_so = rw (to_z-of_z w128 c.in_ok-until.until fits) at c.in_ok-admitted.ensures in
+    admits asked _ _ _ c.requires c.in_ok-test_names.ensures _ c.in_ok-until.ensures _ c.in_ok-form.ensures c.in_ok-secret.secret c.in_ok-secret.ensures _ last stated_so

@@ -3,7 +3,7 @@ use Rattle.request_door.proofs.DoorOrderLemmas.{refused_terms}
 use Rattle.request_door.proofs.door.admit_texts.Goals as goal
 
 pub admit_terms-requires : goal.admit_terms-requires
-admit_terms-requires g c = record { texts = c.requires; tells = c.in-Ok.ensures }
+admit_terms-requires g c = record { texts = c.requires; states = c.in-Ok.ensures }
 
 pub returns-in-Err : goal.returns-in-Err
 returns-in-Err g c =
