@@ -10,6 +10,11 @@ use Rattle.seg_buf.specs.Segments.{LieIn, prelude_len, flat, left_of, first_segm
 abbrev joined : List (List ℕ) → List ℕ
 joined pieces = flat_map (λ piece. piece) pieces
 
+-- what came first and what the pieces have left are these bytes
+pub record AreSplit (front : List ℕ) (pieces : List (List ℕ)) (taken : ℕ) (bytes : List ℕ) : Type 0 where
+  pub live : AreLive pieces taken
+  pub all : front ++ flat pieces taken ≡ bytes
+
 -- what was taken is within the pieces
 taken_within : (pieces : List (List ℕ)) (taken : ℕ) → AreLive pieces taken → taken ≤ length (joined pieces)
 taken_within [] taken live = omega arith

@@ -268,7 +268,7 @@ impl SegBuf {
         Ok(Bytes::from_vec(front)?)
     }
 
-    // Appends the first `n` bytes to none.
+    // Appends the first `n` bytes to a vector, which has to be empty.
     fn push_front_to(&self, n: usize, front: &mut Vec<u8>) -> Result<(), AllocError>
         requires within { n ≤ length self.now.bytes }
         requires none { front.old.items ≡ [] }

@@ -1,6 +1,6 @@
-use Rattle.std.proofs.Common.{◌≡◌, ◌≤◌, ◌++◌, length, take}
+use Rattle.std.proofs.Common.{◌≤◌, length, take}
 use Rattle.std.specs.VecDeque.Iter.{deque_iter_rest}
-use Rattle.seg_buf.specs.Segments.{flat, AreLive}
+use Rattle.seg_buf.proofs.SegmentLemmas.{AreSplit}
 use Rattle.seg_buf.proofs.seg_buf.SegBuf.copy_into.Given as goal
 
 -- what was filled and what the pieces have left are all bytes
@@ -10,7 +10,6 @@ invariant-loop-piece l =
     record {
       can : (goal.iterator-loop-piece).can_next l.piece-iterator;
       finite : (goal.iterator-loop-piece).is_finite l.piece-iterator;
-      live : AreLive pieces l.taken;
       filled : l.filled ≤ length l.into;
-      front : take l.filled l.into ++ flat pieces l.taken ≡ l.self.bytes;
+      split : AreSplit (take l.filled l.into) pieces l.taken l.self.bytes;
     }

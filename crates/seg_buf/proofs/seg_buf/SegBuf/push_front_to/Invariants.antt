@@ -1,6 +1,6 @@
-use Rattle.std.proofs.Common.{◌≡◌, ◌≤◌, ◌++◌, length}
+use Rattle.std.proofs.Common.{◌≤◌, length}
 use Rattle.std.specs.VecDeque.Iter.{deque_iter_rest}
-use Rattle.seg_buf.specs.Segments.{flat, AreLive}
+use Rattle.seg_buf.proofs.SegmentLemmas.{AreSplit}
 use Rattle.seg_buf.proofs.seg_buf.SegBuf.push_front_to.Given as goal
 
 -- what was appended and what the pieces have left are all bytes
@@ -10,7 +10,6 @@ invariant-loop-piece l =
     record {
       can : (goal.iterator-loop-piece).can_next l.piece-iterator;
       finite : (goal.iterator-loop-piece).is_finite l.piece-iterator;
-      live : AreLive pieces l.taken;
       few : length l.front.items ≤ l.n;
-      front : l.front.items ++ flat pieces l.taken ≡ l.self.bytes;
+      split : AreSplit l.front.items pieces l.taken l.self.bytes;
     }
