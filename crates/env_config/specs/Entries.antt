@@ -2,7 +2,7 @@
 use Rattle.std.specs.Prelude.{ℕ, List, [], ◌∷◌, map, Option, Some, None}
 use Rattle.std.specs.Borrow.{Bor}
 use Rattle.env_config.specs.declared.entries.Entries.{Entries}
-use Rattle.env_config.specs.declared.entries.Entries.TheVariants.{One, Few, Many, Given}
+use Rattle.env_config.specs.declared.entries.Entries.TheVariants.{OnePair, PairList, PairMap, Given}
 use Rattle.env_config.specs.declared.entries.Entry.{Entry}
 use Rattle.env_config.specs.SectionProperties.{contents_of, own}
 use Rattle.env_config.specs.Texts.{pairs_of}
@@ -18,7 +18,7 @@ one_left (Some pair) = (pair.0.now, pair.1.now) ∷ []
 
 -- the entries that are left
 abbrev pub left_in : Entries → List (List ℕ × (List ℕ × List ℕ))
-left_in (One pair) = map own (one_left pair)
-left_in (Few pairs) = map own (pairs_of pairs.now)
-left_in (Many pairs) = map own (pairs_of pairs)
+left_in (OnePair pair) = map own (one_left pair)
+left_in (PairList pairs) = map own (pairs_of pairs.now)
+left_in (PairMap pairs) = map own (pairs_of pairs)
 left_in (Given properties) = contents_of properties

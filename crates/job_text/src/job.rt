@@ -13,8 +13,7 @@ use crate::job::draft::Draft;
 pub use crate::job::event_header::hex_bytes;
 use crate::lines::{take_lines, text_of};
 use crate::request_lines::RequestJob;
-use crate::text::copy_of;
-use smithy_core::{HttpRequest, Mem, Message};
+use smithy_core::{HttpRequest, Mem, Message, copied_text};
 use std::alloc::Global;
 
 /// A job: what is signed and streamed, and what text of profile files goes with it. [`Debug`](std::fmt::Debug) isn't
@@ -38,8 +37,8 @@ impl Job {
     {
         Ok(Job {
             request: self.request.try_clone()?,
-            config: copy_of(&self.config)?,
-            credentials: copy_of(&self.credentials)?,
+            config: copied_text(&self.config)?,
+            credentials: copied_text(&self.credentials)?,
             events: copied_events(*self.events.allocator(), self.events.as_slice())?,
         })
     }

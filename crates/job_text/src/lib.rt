@@ -27,5 +27,5 @@ pub use crate::operation_job::{OperationJob, ReplyLine, take_operation_job};
 pub use crate::profile_texts::{ProfileTexts, take_profile_texts};
 pub use crate::record::{RecordDraft, take_record};
 pub use crate::request_lines::{RequestDraft, RequestJob, take_request_job};
-pub use crate::text::{copied, copy_of, lent};
+pub use crate::text::{copied, lent};
 pub use crate::words::{TakeWord, WordsFault, take_words};

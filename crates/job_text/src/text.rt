@@ -14,16 +14,6 @@ pub fn copied(alloc: Global, text: Option<&str>) -> Mem<Option<String>>
     }
 }
 
-/// An equal text, where there is one.
-pub fn copy_of(text: &Option<String>) -> Mem<Option<String>>
-    ensures { IfOk result (λ copy. option_map string_bytes copy ≡ option_map string_bytes text.now) }
-{
-    match text {
-        Some(text) => Ok(Some(text.clone()?)),
-        None => Ok(None),
-    }
-}
-
 /// The text, lent, where there is one.
 pub fn lent(text: &Option<String>) -> Option<&str>
     ensures { option_copied result ≡ option_map string_bytes text.now }

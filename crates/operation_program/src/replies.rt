@@ -5,7 +5,7 @@ ghost use Rattle.job_text.specs.OperationJob.{reply_parts};
 ghost use Rattle.operation_run.specs.Reply.{metadata_texts, reply_texts};
 ghost use Rattle.operation_program.specs.Attempting.{code_error, date_headers, told_reply};
 
-use job_text::{ReplyLine, copy_of};
+use job_text::ReplyLine;
 use operation_run::Reply;
 use smithy_core::{ErrorMetadata, Headers, HttpResponse, Mem};
 use std::alloc::Global;

@@ -12,9 +12,8 @@ use aws_auth::{
     OverrideError, SigV4MessageSigner, SigV4OperationSigningConfig, SigV4SessionTokenNameOverride,
     SigV4Signer, SigV4SigningError, SigningInputs,
 };
-use job_text::copy_of;
 use sigv4::{SigningError, SigningSettings};
-use smithy_core::{HttpRequest, Identity, Mem, Moment, Region, SigningName};
+use smithy_core::{HttpRequest, Identity, Mem, Moment, Region, SigningName, copied_text};
 use std::alloc::Global;
 
 /// The request, signed, and what signs the messages that follow it.
@@ -49,7 +48,7 @@ pub fn sign_request(
         payload: None,
         skew_millis: options.skew_millis,
     };
-    let asked = copy_of(&options.token_name)?;
+    let asked = copied_text(&options.token_name)?;
     let name_override = SigV4SessionTokenNameOverride::new(
         move |_: &SigningSettings, _: &SigV4OperationSigningConfig| name_asked(&asked),
     );

@@ -18,8 +18,8 @@ use crate::written::head_of;
 use aws_auth::{SigV4MessageSigner, SigningOptions};
 use env_config::Source;
 use event_io::take_moment;
-use job_text::{copied_events, copy_of, lent};
-use smithy_core::{ByteSink, Clock, Env, HttpRequest, Identity, Mem, Message, Moment};
+use job_text::{copied_events, lent};
+use smithy_core::{ByteSink, Clock, Env, HttpRequest, Identity, Mem, Message, Moment, copied_text};
 use std::alloc::Global;
 
 /// What is asked of a stream.
@@ -44,9 +44,9 @@ impl StreamOptions {
     {
         Ok(StreamOptions {
             name: self.name.clone()?,
-            service_id: copy_of(&self.service_id)?,
+            service_id: copied_text(&self.service_id)?,
             signing: self.signing.try_clone()?,
-            token_name: copy_of(&self.token_name)?,
+            token_name: copied_text(&self.token_name)?,
             skew_millis: self.skew_millis,
         })
     }

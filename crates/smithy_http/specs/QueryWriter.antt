@@ -76,3 +76,9 @@ BuildsQuery t (Err fault) = BuildsTarget t (Err fault)
 abbrev pub BuildsText : Target → Result (String Global) UriFault → Type 0
 BuildsText t (Ok text) = (uri : Uri) × BuildsTarget t (Ok uri) × (string_bytes text ≡ target_text t)
 BuildsText t (Err fault) = BuildsTarget t (Err fault)
+
+-- the parts of the target are joined, unless it has an authority without a scheme
+abbrev pub JoinsText : Target → Result (String Global) UriFault → Type 0
+JoinsText t (Ok text) = ¬ (IsAuthorityAlone t) × (string_bytes text ≡ target_text t)
+JoinsText t (Err InvalidUri) = IsAuthorityAlone t
+JoinsText t (Err NoMemory) = Unit {0}

@@ -1,8 +1,8 @@
 ghost use Rattle.std.specs.Prelude.{◌≡◌, [], unwrap_or, IfOk, OnOk, OnErr, string_bytes};
 ghost use Rattle.http_uri.specs.Uri.{uri_query};
-ghost use Rattle.smithy_http.specs.QueryWriter.{BuildsTarget, BuildsQuery, BuildsText, ReadsTargetParts, with_pair, without_query};
+ghost use Rattle.smithy_http.specs.QueryWriter.{BuildsTarget, BuildsQuery, BuildsText, JoinsText, ReadsTargetParts, with_pair, without_query};
 ghost use Rattle.smithy_http.specs.Escape.{base_set, escaped};
-ghost use Rattle.smithy_http.specs.Target.{target_of, target_text};
+ghost use Rattle.smithy_http.specs.Target.{target_of};
 
 use crate::piece::marked_pair;
 use crate::query::fmt_string;
@@ -145,8 +145,9 @@ impl QueryWriter {
     pub fn build_text(self) -> Result<String, UriFault>
         ensures { BuildsText self result }
     {
-        let _uri = self.build()?;
-        Ok(self.text()?)
+        let text = self.text()?;
+        parse_target(text.clone()?)?;
+        Ok(text)
     }
 
     /// A writer of the same target.
@@ -163,16 +164,16 @@ impl QueryWriter {
     fn build(&self) -> Result<Uri, UriFault>
         ensures { BuildsTarget self.now result }
     {
-        if is_authority_alone(&self.base) {
-            return Err(UriFault::InvalidUri);
-        }
         parse_target(self.text()?)
     }
 
-    // The text of the target.
-    fn text(&self) -> Mem<String>
-        ensures { IfOk result (λ text. string_bytes text ≡ target_text self.now) }
+    // The text of the target, which has no authority without a scheme.
+    fn text(&self) -> Result<String, UriFault>
+        ensures { JoinsText self.now result }
     {
+        if is_authority_alone(&self.base) {
+            return Err(UriFault::InvalidUri);
+        }
         let query = if self.has_query {
             Some(self.query.as_str())
         } else {
@@ -182,13 +183,13 @@ impl QueryWriter {
             Some(authority) => Some(authority.as_str()),
             None => None,
         };
-        join_target(
+        Ok(join_target(
             *self.query.allocator(),
             self.base.scheme_str(),
             authority,
             self.base.path(),
             query,
-        )
+        )?)
     }
 }
 

@@ -1,5 +1,4 @@
 ghost use Rattle.std.specs.Prelude.{◌≡◌, IfOk, OnOk};
-ghost use Rattle.std.specs.List.{list_any};
 ghost use Rattle.aws_intercept.specs.Distinct.{distinct, with_new};
 ghost use Rattle.aws_intercept.specs.Metric.{is_metric};
 
@@ -16,23 +15,17 @@ pub(crate) fn distinct_metrics(
 {
     let mut kept = Vec::new(alloc);
     for metric in metrics {
-        keep(&mut kept, *metric)?;
+        push_new(&mut kept, *metric)?;
     }
     Ok(kept)
 }
 
-// Appends a metric that isn't there.
-fn keep(kept: &mut Vec<BusinessMetric>, metric: BusinessMetric) -> Mem<()>
-    ensures { OnOk result (kept.new.items ≡ with_new is_metric kept.old.items metric) }
+/// Appends an element that isn't there.
+pub(crate) fn push_new<T: PartialEq + Drop>(elements: &mut Vec<T>, element: T) -> Mem<()>
+    ensures { OnOk result (elements.new.items ≡ with_new T.eq elements.old.items element) }
 {
-    if !holds(kept.as_slice(), metric) {
-        kept.push(metric)?;
+    if !elements.contains(&element) {
+        elements.push(element)?;
     }
     Ok(())
-}
-
-fn holds(metrics: &[BusinessMetric], metric: BusinessMetric) -> bool
-    ensures { result ≡ list_any (λ other. is_metric other metric) metrics.now }
-{
-    metrics.iter().any(|other| *other == metric)
 }

@@ -1,5 +1,5 @@
 ghost use Rattle.std.specs.Prelude.{◌≡◌, IfOk, option_copied};
-ghost use Rattle.aws_intercept.specs.Metadata.{ChecksNameVersion, same_name_version};
+ghost use Rattle.aws_intercept.specs.Metadata.{ChecksNameVersion};
 
 use crate::user_agent::metadata::InvalidMetadataValue;
 use crate::user_agent::name_version::NameVersion;
@@ -61,19 +61,27 @@ impl FrameworkMetadata {
         self.named.version()
     }
 
-    /// Whether name and version are the same.
-    pub(crate) fn is_same(&self, other: &FrameworkMetadata) -> bool
-        ensures { result ≡ same_name_version self.now other.now }
-    {
-        self.named.is_same(&other.named)
-    }
-
     /// Equal metadata.
     pub fn try_clone(&self) -> Mem<FrameworkMetadata>
         ensures { IfOk result (λ copy. copy ≡ self.now) }
     {
         let named = self.named.try_clone()?;
         Ok(FrameworkMetadata { named })
+    }
+}
+
+impl PartialEq for FrameworkMetadata {
+    ghost use Rattle.std.specs.Cmp.{and_per, on_per, partial_equiv_from_equiv};
+    ghost use Rattle.std.specs.Cmp.Lexicographic.{nat_list_eq_equiv, options_equiv};
+    ghost use Rattle.aws_intercept.specs.Metadata.{same_name_version};
+
+    ghost eq = { same_name_version };
+
+    ghost laws = { and_per (on_per (λ named. named.name) (partial_equiv_from_equiv nat_list_eq_equiv))
+        (on_per (λ named. named.version) (partial_equiv_from_equiv (options_equiv nat_list_eq_equiv))) };
+
+    fn eq(&self, other: &FrameworkMetadata) -> bool {
+        self.named.is_same(&other.named)
     }
 }
 

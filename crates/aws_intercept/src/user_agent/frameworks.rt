@@ -1,8 +1,7 @@
 ghost use Rattle.std.specs.Prelude.{◌≡◌, IfOk, OnOk};
-ghost use Rattle.std.specs.List.{list_any};
 ghost use Rattle.aws_intercept.specs.Frameworks.{first_frameworks, first_ten_with, oldest_frameworks};
-ghost use Rattle.aws_intercept.specs.Metadata.{same_name_version};
 
+use crate::user_agent::distinct::push_new;
 use crate::user_agent::framework::FrameworkMetadata;
 use smithy_core::Mem;
 use std::alloc::Global;
@@ -54,15 +53,8 @@ fn first_frameworks(alloc: Global, frameworks: &[FrameworkMetadata]) -> Mem<Vec<
 fn keep(kept: &mut Vec<FrameworkMetadata>, framework: &FrameworkMetadata) -> Mem<()>
     ensures { OnOk result (kept.new.items ≡ first_ten_with kept.old.items framework.now) }
 {
-    if kept.len() >= MOST_FRAMEWORKS || holds(kept.as_slice(), framework) {
-        return Ok(());
+    if kept.len() < MOST_FRAMEWORKS {
+        push_new(kept, framework.try_clone()?)?;
     }
-    kept.push(framework.try_clone()?)?;
     Ok(())
-}
-
-fn holds(frameworks: &[FrameworkMetadata], framework: &FrameworkMetadata) -> bool
-    ensures { result ≡ list_any (λ other. same_name_version other framework.now) frameworks.now }
-{
-    frameworks.iter().any(|other| other.is_same(framework))
 }

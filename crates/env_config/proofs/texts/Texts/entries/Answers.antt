@@ -4,5 +4,5 @@ use Rattle.env_config.proofs.FewLemmas.{AreInOrder}
 use Rattle.env_config.proofs.SectionLemmas.{bytes_sorted}
 use Rattle.env_config.proofs.texts.Texts.entries.Goals as goal
 
-pub returns-in-Many-clause-ordered : goal.returns-in-Many-clause-ordered
-returns-in-Many-clause-ordered c = subst AreInOrder (sym (ap pairs_in c.in-Many.is) ∙ c.self.view_is) (bytes_sorted c.in-Many.pairs.entries c.iter.ensures.ordered)
+pub returns-in-PairMap-clause-ordered : goal.returns-in-PairMap-clause-ordered
+returns-in-PairMap-clause-ordered c = subst AreInOrder (sym (ap pairs_in c.in-PairMap.is) ∙ c.self.view_is) (bytes_sorted c.in-PairMap.pairs.entries c.iter.ensures.ordered)
