@@ -39,7 +39,7 @@ abbrev pub code_error : Option (List ℕ) → Option ErrorTexts
 code_error None = None
 code_error (Some code) = Some (record { code = Some code; message = None })
 
--- the reply that a line tells
+-- the reply that a line spells
 abbrev pub told_reply : ReplyParts → ReplyTexts
 told_reply reply = record { response = record { status = reply.status; headers = date_headers reply.date; skew = None }; error = code_error reply.code }
 

@@ -71,7 +71,7 @@ passed_fault true t None none = refl
 passed_fault true t (Some error) none = cc
 passed_fault false t error none = cc
 
--- the error of a request that isn't signed for this fault, and how it halts
+-- the error of a request that isn't signed for this fault, and how it ends_early
 abbrev pub TellsFault : List ℕ → Instant → (Target → Case) → SigV4SigningError → Type 0
 TellsFault text at case error = IsRequestError error × Unsigned text at case (error_ending error)
 
@@ -200,8 +200,8 @@ module _ (request copy : HttpRequest) (identity : Identity) (region : List ℕ) 
       )
 
   -- a request that isn't
-  pub unsigned_as_asked : (halt : Ending) → Unsigned (string_bytes copy.target) (request_moment asked first) (identity_case copy identity region asked first) halt
-      → Unsigned (string_bytes request.target) (request_moment wanted first) (identity_case request identity region wanted first) halt
+  pub unsigned_as_asked : (early : Ending) → Unsigned (string_bytes copy.target) (request_moment asked first) (identity_case copy identity region asked first) early
+      → Unsigned (string_bytes request.target) (request_moment wanted first) (identity_case request identity region wanted first) early
   unsigned_as_asked (refused told) (t, spells, stopped) = (t, rw target at spells, sym (fault_is t) ∙ stopped)
   unsigned_as_asked no_memory free = tt
   unsigned_as_asked other wrong = absurd wrong

@@ -17,13 +17,12 @@ use Rattle.env_config.specs.Sections.{FileText}
 use Rattle.signed_stream.specs.Case.{job_case, request_moment}
 use Rattle.signed_stream.specs.Chain.{first_refusal}
 use Rattle.signed_stream.specs.Command.{Wanted}
-use Rattle.signed_stream.specs.Halt.{ended}
 use Rattle.job_text.specs.Job.{JobParts}
 use Rattle.signed_stream.specs.Plan.{GoesAsPlanned, IsNeeded, Plan, TargetRead, TargetSpells, accepted, stops, unaccepted, unread}
 use Rattle.signed_stream.specs.Sending.{SendsAll}
 use Rattle.signed_stream.specs.Settings.{GivesSettings, Selected, settings}
 use Rattle.signed_stream.specs.Sign.{IsSignedFor, SealsFor, Unsigned, case_fault, request_fault, target_fault}
-use Rattle.signed_stream.specs.Status.{Ending, RunFault, invalid_uri, missing_credentials, missing_signing_region, moment_out_of_range, no_memory, parse_error, refused, settings_ending, stream_ending}
+use Rattle.signed_stream.specs.Status.{Ending, RunFault, invalid_uri, missing_credentials, missing_signing_region, moment_out_of_range, no_memory, parse_error, refused, settings_ending, stream_ending, ended}
 use Rattle.signed_stream.specs.Stream.{IsValid, case_plan, request_plan, selected_plan, target_plan, valid_case, written_valid}
 use Rattle.signed_stream.specs.Streaming.{CompletesStream, HasSentStream, SignsAndStreams, Streams, job_with, stream_plan}
 use Rattle.signed_stream.specs.Written.{case_refusal, head_in_form}
@@ -83,8 +82,8 @@ module _ (j : JobParts) (wanted : Wanted) (selected : Selected) (first : Instant
       no_more (v ∷ front) e = cc
 
   -- a request that isn't signed
-  pub unsigned_goes : (text : List ℕ) (halt : Ending) (held : Option (List ℕ)) → text ≡ j.target → Unsigned text (request_moment wanted first) (job_case j wanted selected first) halt
-      → (target : TargetRead) × TargetSpells text target × GoesAsPlanned (planned target (first ∷ [])) halt held held
+  pub unsigned_goes : (text : List ℕ) (early : Ending) (held : Option (List ℕ)) → text ≡ j.target → Unsigned text (request_moment wanted first) (job_case j wanted selected first) early
+      → (target : TargetRead) × TargetSpells text target × GoesAsPlanned (planned target (first ∷ [])) early held held
   unsigned_goes text (refused told) held is unsigned =
       (unsigned.0, unsigned.1, refused_goes wanted.form j.target (request_moment wanted first) (job_case j wanted selected first) j.events [] unsigned.0 told held unsigned.2)
   unsigned_goes text no_memory held is unsigned = (unread, tt, goes_no_memory (planned unread (first ∷ [])) held)

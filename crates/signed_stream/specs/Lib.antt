@@ -9,7 +9,6 @@ pub mod Counts
 pub mod EventLines
 pub mod Generate
 pub mod Generator
-pub mod Halt
 pub mod Laws
 pub mod Options
 pub mod Plan

@@ -10,7 +10,7 @@ ghost use Rattle.signed_stream.specs.Options.{IsOptionsOf, wanted_of};
 ghost use Rattle.signed_stream.specs.Running.{NamesUnreadable, OfClock};
 ghost use Rattle.signed_stream.specs.Streaming.{TakesFor, job_with, stream_plan};
 ghost use Rattle.signed_stream.specs.Sources.{DiskGives};
-ghost use Rattle.signed_stream.specs.Halt.{ended};
+ghost use Rattle.signed_stream.specs.Status.{ended};
 ghost use Rattle.signed_stream.specs.Status.{could_not_read_file, ending_of, output_fault};
 
 use crate::command::StreamWords;

@@ -234,7 +234,7 @@ impl Progress {
 
 // A fault of the chain, which stays whatever memory there is.
 fn lasting(fault: ChainFault) -> Mem<ChainFault>
-    ensures { IfOk result (λ told. (told ≡ fault) × (told ≡ NoMemory → ⊥)) }
+    ensures { IfOk result (λ kept. (kept ≡ fault) × (kept ≡ NoMemory → ⊥)) }
 {
     match fault {
         ChainFault::NoMemory => Err(AllocError),

@@ -1,7 +1,7 @@
 use Rattle.std.proofs.Common.{List, ℕ, map}
 use Rattle.std.specs.Prelude.{string_bytes}
 use Rattle.signed_stream.specs.Command.{command}
-use Rattle.signed_stream.specs.Running.{RunsAsPlanned, TellsInput}
+use Rattle.signed_stream.specs.Running.{RunsAsPlanned, ShowsInput}
 use Rattle.signed_stream.specs.Sources.{DiskGives}
 use Rattle.signed_stream.specs.Status.{ending_of}
 use Rattle.signed_stream.proofs.HeadlineLemmas.{completes, has_done_where}
@@ -14,13 +14,13 @@ returns-clause-headline g c =
     let said = c.say.ensures.answer in
     let gave = DiskGives g.D.Disk.answers g.D.Disk.faults (g.D.Disk.files c.args.disk.now) c.args.env.now c.args.disk.now c.answer-status.new.disk in
     let given = answer.planned.0 in
-    let runs : (bytes : List ℕ) → TellsInput (command (map string_bytes c.args.words.now)) (g.S.ByteSource.left c.args.input.now) bytes
+    let runs : (bytes : List ℕ) → ShowsInput (command (map string_bytes c.args.words.now)) (g.S.ByteSource.left c.args.input.now) bytes
     → RunsAsPlanned gave c.args.env.now (command (map string_bytes c.args.words.now)) bytes given (ending_of c.say.result) (g.K.ByteSink.held c.args.out.now) (g.K.ByteSink.held c.answer-status.new.out) =
-    λ bytes told. said_runs gave _ _ _ _ _ _ _ _ (answer.planned.2 bytes told) said in (
+    λ bytes shown. said_runs gave _ _ _ _ _ _ _ _ (answer.planned.2 bytes shown) said in (
       given,
       record {
-        headline = λ bytes told is. has_done_where gave _ _ bytes given _ _ _ is (runs bytes told);
-        complete = λ bytes told other files later moments can. completes gave _ _ bytes given other later _ _ _ (runs bytes told) files moments can;
+        headline = λ bytes shown is. has_done_where gave _ _ bytes given _ _ _ is (runs bytes shown);
+        complete = λ bytes shown other files later moments can. completes gave _ _ bytes given other later _ _ _ (runs bytes shown) files moments can;
         ended = said_asked _ _ _ answer.asked said;
         moments = answer.planned.1;
         planned = runs;

@@ -15,7 +15,7 @@ use Rattle.signed_stream.specs.Stream.{selected_plan}
 use Rattle.signed_stream.specs.Streaming.{job_with, stream_wanted}
 use Rattle.signed_stream.proofs.FitLemmas.{counts_on}
 use Rattle.signed_stream.proofs.RunLemmas.{goes_no_memory, no_moment}
-use Rattle.signed_stream.proofs.SendLemmas.{halted_before, sent_after}
+use Rattle.signed_stream.proofs.SendLemmas.{ended_early_before, sent_after}
 use Rattle.signed_stream.proofs.StreamingLemmas.{first_needed, never_failed, signed_streams, unsigned_goes}
 use Rattle.signed_stream.proofs.streaming.stream_selected.Goals as goal
 
@@ -76,7 +76,7 @@ returns-in_err-write_head-clause-streams g c =
     (signed_streams (job_with c.args.request c.args.events.items) (stream_wanted c.args.options.now c.args.form) (selected_in c.args.settings) c.in_ok-first.first made.0 made.2
     c.args.request c.in_ok-signed.signed c.in_ok-signed.signer refl made.3 made.4 (λ taken. GivesEach g.C.Clock c.args.clock.now taken c.take_moment.new.clock)
     c.args.moments.now.items c.take_moment.new.moments.items c.take_moment.new.moments.items [] _ _ _ c.in_ok-first.ensures.ok.0 (sym (append-nil c.take_moment.new.moments.items)) (c.take_moment.new.clock, c.in_ok-first.ensures.ok.1, refl) made.1
-    (halted_before {T = Unit {0}} c.args.form _ _ c.args.events.items _ _ _ c.in_err-write_head.field-0.0 c.in_err-write_head.ensures.sends))
+    (ended_early_before {T = Unit {0}} c.args.form _ _ c.args.events.items _ _ _ c.in_err-write_head.field-0.0 c.in_err-write_head.ensures.sends))
 
 pub returns-in_err-write_head-clause-counts : goal.returns-in_err-write_head-clause-counts
 returns-in_err-write_head-clause-counts g c =
