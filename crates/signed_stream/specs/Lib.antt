@@ -10,6 +10,7 @@ pub mod EventLines
 pub mod Generate
 pub mod Generator
 pub mod Laws
+pub mod OptionWords
 pub mod Options
 pub mod Plan
 pub mod ProfileOptions

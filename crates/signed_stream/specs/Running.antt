@@ -12,7 +12,6 @@ use Rattle.signed_stream.specs.Command.{Command, Wanted, bad_word, check_record,
 use Rattle.signed_stream.specs.Generate.{generate_plan, shown_stream}
 use Rattle.signed_stream.specs.Generator.{drawn_events}
 use Rattle.job_text.specs.Job.{job}
-use Rattle.job_text.specs.Pieces.{taken_from}
 use Rattle.signed_stream.specs.Plan.{FilesRead, GoesAsPlanned, IsNeeded, Plan, Supplied, most_input, stops, unless_large, unreadable}
 use Rattle.job_text.specs.ProfileTexts.{profile_texts}
 use Rattle.job_text.specs.Record.{spelled_record}
@@ -22,7 +21,7 @@ use Rattle.signed_stream.specs.Shown.{shown_settings}
 use Rattle.signed_stream.specs.Status.{Ending, RunFault, bad_job, bad_words, could_not_read_file, done, header_value_too_long, headers_too_long, invalid_header_name_length, job_too_large, message_too_long, moment_out_of_range, no_memory, output_fault, payload_too_long, read_fault, refused, timestamp_value_too_large}
 use Rattle.signed_stream.specs.Stream.{GaveReading, IsStreamable, job_plan, streamed}
 use Rattle.signed_stream.specs.WatchChain.{HasWatched, IsWholeInput, NamesUnread, UnlessRead, WatchesInput}
-use Rattle.signed_stream.specs.WatchWords.{WatchWanted, no_watch_given, watch_from, watch_word}
+use Rattle.signed_stream.specs.WatchWords.{WatchWanted, read_after_watch}
 
 -- ## The plan
 
@@ -241,10 +240,6 @@ pub data Task : Type 0 where
   to_watch : Result WatchWanted ℕ → Task
   -- a command that goes by a plan for the whole of its input, or none
   to_run : Command → Task
-
--- what the words behind `watch` ask for, or the place of the first bad one
-abbrev pub read_after_watch : List (List ℕ) → Result WatchWanted ℕ
-read_after_watch words = watch_from (taken_from watch_word 2 no_watch_given words)
 
 -- what the words ask for: `watch` reads while it writes, and every other command goes by its plan
 unfoldable pub task : List (List ℕ) → Task

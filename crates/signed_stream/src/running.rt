@@ -6,10 +6,11 @@ ghost use Rattle.signed_stream.specs.Command.{command};
 ghost use Rattle.signed_stream.specs.Options.{input_commanded};
 ghost use Rattle.signed_stream.specs.Plan.{Supplied, most_input};
 ghost use Rattle.smithy_core.specs.Given.{Gives};
-ghost use Rattle.signed_stream.specs.Running.{AsksDiskLast, EndsAsAsked, KeepsDisk, KeepsOutput, NamesUnreadable, AsksWatch, Ran, RanWatch, Unless, UnlessTask, UnlessCommand, Went, When, task, comes_late, read_after_watch, reads_files, reads_input, takes_files, takes_input};
+ghost use Rattle.signed_stream.specs.Running.{AsksDiskLast, EndsAsAsked, KeepsDisk, KeepsOutput, NamesUnreadable, AsksWatch, Ran, RanWatch, Unless, UnlessTask, UnlessCommand, Went, When, task, comes_late, reads_files, reads_input, takes_files, takes_input};
 ghost use Rattle.signed_stream.specs.Sources.{DiskGives};
 ghost use Rattle.signed_stream.specs.Status.{could_not_read_file, done, ending_of, output_fault, read_fault};
 ghost use Rattle.signed_stream.specs.WatchChain.{UnlessRead};
+ghost use Rattle.signed_stream.specs.WatchWords.{read_after_watch};
 
 use crate::check_record::check_record;
 use crate::command::{Command, InputCommand, read_words};

@@ -1,7 +1,7 @@
 use Rattle.std.proofs.Common.{map}
 use Rattle.std.specs.Prelude.{string_bytes}
 use Rattle.smithy_core.proofs.GivenLemmas.{given_none}
-use Rattle.signed_stream.specs.Running.{read_after_watch}
+use Rattle.signed_stream.specs.WatchWords.{read_after_watch}
 use Rattle.signed_stream.specs.Sources.{DiskGives}
 use Rattle.signed_stream.specs.Status.{ending_of}
 use Rattle.signed_stream.proofs.SaidLemmas.{said_is, said_reads, said_writes}
