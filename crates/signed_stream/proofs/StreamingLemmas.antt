@@ -1,5 +1,5 @@
 -- How a request that is signed and its events go as planned.
-use Rattle.std.proofs.Common.{◌≡◌, ◌==◌, ℕ, ◌+◌, ◌≤◌, inr, Bool, true, false, List, [], ◌∷◌, ◌++◌, length, Option, Some, None, refl, sym, ap, ◌∙◌, subst, arith}
+use Rattle.std.proofs.Common.{◌≡◌, ◌==◌, ℕ, ◌+◌, ◌≤◌, inr, Bool, true, false, List, [], ◌∷◌, ◌++◌, length, Option, Some, None, refl, sym, ap, ◌∙◌, subst, append-nil, arith}
 use Rattle.std.specs.Prelude.{Result, Ok, Err, string_bytes, if◌then◌else◌}
 use Rattle.std.specs.Option.{option_or}
 use Rattle.std.proofs.lemmas.Bool.Decides.{nat_tests}
@@ -31,7 +31,7 @@ use Rattle.signed_stream.specs.declared.settings.SettingsFault.{SettingsFault}
 use Rattle.signed_stream.specs.declared.settings.SettingsFault.TheVariants as faults
 use Rattle.signed_stream.specs.declared.status.StreamFault.{StreamFault}
 use Rattle.signed_stream.specs.declared.status.StreamFault.TheVariants as stream
-use Rattle.signed_stream.proofs.RunLemmas.{goes_no_memory, goes_stopped}
+use Rattle.signed_stream.proofs.RunLemmas.{goes_no_memory, goes_stopped, no_moment}
 use Rattle.signed_stream.proofs.SendLemmas.{sends_goes, written_lines}
 
 -- a fault that stops
@@ -195,3 +195,20 @@ module _ (copy request : HttpRequest) (events : List Parts) (method : string_byt
             signs.complete t later (subst (λ (text : List ℕ). TargetSpells text t) (sym target) spells)
             (subst (λ (j : JobParts). IsValid files profile env wanted j t (sent.taken ++ later)) (sym same_parts) valid);
       }
+
+-- memory ran out before a moment was taken
+pub none_streamed : (clock : List Instant → Type 0) (moments : List Instant) (files : List FileText) (profile : List ℕ) (env : List (List ℕ × List ℕ)) (wanted : Wanted) (request : HttpRequest) (events : List Parts)
+    (held : Option (List ℕ)) → clock [] → SignsAndStreams clock moments moments files profile env wanted request events (Err stream.NoMemory) held held
+none_streamed clock moments files profile env wanted request events held none = record {
+  streams = record {
+    target = unread;
+    taken = [];
+    spelled = tt;
+    gained = sym (append-nil moments);
+    given = none;
+    goes = goes_no_memory (stream_plan files profile env wanted (job_with request events) unread []) held;
+    needed = λ front t rest is. absurd (no_moment front t rest is);
+  };
+  headline = tt;
+  complete = λ target later spells valid. inr (inr refl);
+}

@@ -18,6 +18,7 @@ use Rattle.signed_stream.specs.Status.{Ending, done, no_memory, output_fault, en
 use Rattle.signed_stream.specs.Stream.{IsValid, selected_plan, valid_case, written_valid}
 use Rattle.signed_stream.specs.declared.form.Form.{Form}
 use Rattle.signed_stream.specs.declared.streaming.StreamOptions.{StreamOptions}
+use Rattle.signed_stream.specs.declared.streaming.StreamedRequest.{StreamedRequest}
 use Rattle.signed_stream.specs.declared.status.StreamFault.{StreamFault}
 
 -- what the options ask for, to be written in a form
@@ -51,6 +52,13 @@ job_with request events = record {
   credentials = None;
   events = events;
 }
+
+-- what is asked of a request that is streamed, and its job
+abbrev pub wanted_for : StreamedRequest → Wanted
+wanted_for stream = stream_wanted stream.options.now stream.form
+
+abbrev pub job_for : StreamedRequest → JobParts
+job_for stream = job_with stream.request stream.events.items
 
 -- what follows from the files, the variables, what the target spells and the moments that were taken
 abbrev pub stream_plan : List FileText → List ℕ → List (List ℕ × List ℕ) → Wanted → JobParts → TargetRead → List Instant → Plan
