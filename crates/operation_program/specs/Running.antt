@@ -16,7 +16,7 @@ use Rattle.signed_stream.specs.Saying.{ending_line}
 use Rattle.signed_stream.specs.Settings.{Selected, settings}
 use Rattle.signed_stream.specs.Sources.{selection, source_places}
 use Rattle.signed_stream.specs.Status.{Ending, bad_job, bad_words, could_not_read_file, done, job_too_large, no_memory, output_fault, read_fault}
-use Rattle.operation_program.specs.Attempting.{Scripted, attempts_made, heads_text, operation_outcome, scripted_fault, scripted_request, scripted_rounds, told_reply}
+use Rattle.operation_program.specs.Attempting.{Scripted, attempts_made, heads_text, operation_outcome, scripted_fault, scripted_request, scripted_rounds, listed_reply}
 use Rattle.operation_run.specs.Rounds.{first_there, is_used_up, tries}
 use Rattle.operation_program.specs.Status.{OperationEnding, transport_fault, usual}
 
@@ -57,7 +57,7 @@ scripted env wanted input selected = record {
   selected = selected;
   name = wanted.name;
   at = wanted.at;
-  replies = map told_reply input.replies;
+  replies = map listed_reply input.replies;
 }
 
 -- with what is selected, or how the run ends without it

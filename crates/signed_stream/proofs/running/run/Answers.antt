@@ -13,7 +13,7 @@ use Rattle.signed_stream.proofs.running.run.Goals as goal
 
 pub returns-in-Some-clause-headline : goal.returns-in-Some-clause-headline
 returns-in-Some-clause-headline g c =
-    let asked = rw c.in-Some.is at c.words_of_watch.ensures in
+    let asked = c.in-Some.ensures in
     let watch = c.watch-status.ensures in
     let said = c.say.ensures.answer in
     let gave = DiskGives g.D.Disk.answers g.D.Disk.faults (g.D.Disk.files c.args.disk.now) c.args.env.now c.args.disk.now c.watch-status.new.disk in
@@ -29,7 +29,7 @@ returns-in-Some-clause-headline g c =
 
 pub returns-clause-headline : goal.returns-clause-headline
 returns-clause-headline g c =
-    let asked = rw c.in-None.is at c.words_of_watch.ensures in
+    let asked = c.in-None.ensures in
     let answer = c.answer-status.ensures in
     let said = c.say-in-None.ensures.answer in
     let gave = DiskGives g.D.Disk.answers g.D.Disk.faults (g.D.Disk.files c.args.disk.now) c.args.env.now c.args.disk.now c.answer-status.new.disk in
@@ -55,7 +55,7 @@ returns-clause-headline g c =
 
 pub returns-in-Some-clause-outside : goal.returns-in-Some-clause-outside
 returns-in-Some-clause-outside g c =
-    let asked = rw c.in-Some.is at c.words_of_watch.ensures in
+    let asked = c.in-Some.ensures in
     let watch = c.watch-status.ensures in
     let gave = DiskGives g.D.Disk.answers g.D.Disk.faults (g.D.Disk.files c.args.disk.now) c.args.env.now c.args.disk.now c.watch-status.new.disk in
     let read = read_after_watch (map string_bytes c.in-Some.rest.now) in
@@ -72,6 +72,6 @@ returns-in-Some-clause-outside g c =
 
 pub returns-clause-outside : goal.returns-clause-outside
 returns-clause-outside g c =
-    let asked = rw c.in-None.is at c.words_of_watch.ensures in
+    let asked = c.in-None.ensures in
     let answer = c.answer-status.ensures in
     rw asked (said_when _ _ _ _ answer.outside.0 c.say-in-None.ensures.answer, answer.outside.1, answer.reads.grew, answer.outside.2, answer.writes.grew, c.say-in-None.ensures.count)
