@@ -83,11 +83,11 @@ module _ (who : Signer) (place : ℕ) (signature : List ℕ) (t : Instant) (byte
 
 -- ## The chain
 
--- a frame that is refused is ended_early before it is written
+-- a frame that is refused ends early, before it is written
 refused_before : (stopped : Option RunFault) (told : RunFault) (line : List ℕ) (held : Option (List ℕ)) → stopped ≡ Some told → EndsEarly stopped (unless_refused stopped line) held held (refused told)
 refused_before stopped told line held is = rw is (refl, gains_nothing held)
 
--- running out of memory ends_early it too
+-- and so does one that finds no memory
 wanting_before : (stopped : Option RunFault) (line : List ℕ) (held : Option (List ℕ)) → EndsEarly stopped (unless_refused stopped line) held held no_memory
 wanting_before stopped line held = prefix_at_start held _
 
