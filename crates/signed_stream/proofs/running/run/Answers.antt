@@ -7,8 +7,8 @@ use Rattle.signed_stream.specs.Sources.{DiskGives}
 use Rattle.signed_stream.specs.Status.{ending_of}
 use Rattle.signed_stream.specs.WatchWords.{read_after_watch}
 use Rattle.signed_stream.proofs.HeadlineLemmas.{completes, has_done_where}
-use Rattle.signed_stream.proofs.SaidLemmas.{said_asked, said_is, said_keeps, said_reads, said_runs, said_when, said_writes}
-use Rattle.signed_stream.proofs.WatchedLemmas.{rest_watched, watched_to_end, went_watching, when_watched}
+use Rattle.signed_stream.proofs.SaidLemmas.{said_asked, said_disk, said_is, said_keeps, said_reads, said_runs, said_when, said_writes}
+use Rattle.signed_stream.proofs.WatchedLemmas.{rest_watched, unasked_watched, unread_watched, unwritten_watched, watched_to_end, went_watching, when_watched}
 use Rattle.signed_stream.proofs.running.run.Goals as goal
 
 pub returns-in-Some-clause-headline : goal.returns-in-Some-clause-headline
@@ -62,8 +62,10 @@ returns-in-Some-clause-outside g c =
     let went = went_watching gave c.args.env.now read (g.S.ByteSource.left c.args.input.now) (g.S.ByteSource.left c.watch-status.new.input) (ending_of c.watch-status.result) (ending_of c.say.result)
     (g.K.ByteSink.held c.args.out.now) (g.K.ByteSink.held c.watch-status.new.out) watch.watches c.say.ensures.answer in
     rw asked (
-      when_watched read _ (λ is. watched_to_end gave _ read _ _ _ _ _ went is),
-      rest_watched gave _ read _ _ _ _ _ watch.watches,
+      when_watched read _ (λ is. watched_to_end gave c.args.env.now read (g.S.ByteSource.left c.args.input.now) (g.S.ByteSource.left c.watch-status.new.input) (ending_of c.say.result)
+          (g.K.ByteSink.held c.args.out.now) (g.K.ByteSink.held c.watch-status.new.out) went is),
+      rest_watched gave c.args.env.now read (g.S.ByteSource.left c.args.input.now) (g.S.ByteSource.left c.watch-status.new.input) (ending_of c.watch-status.result)
+          (g.K.ByteSink.held c.args.out.now) (g.K.ByteSink.held c.watch-status.new.out) watch.watches,
       watch.reads.grew,
       watch.count,
       watch.writes.grew,
@@ -75,3 +77,42 @@ returns-clause-outside g c =
     let asked = c.in-None.ensures in
     let answer = c.answer-status.ensures in
     rw asked (said_when _ _ _ _ answer.outside.0 c.say-in-None.ensures.answer, answer.outside.1, answer.reads.grew, answer.outside.2, answer.writes.grew, c.say-in-None.ensures.count)
+
+pub returns-in-Some-clause-untouched : goal.returns-in-Some-clause-untouched
+returns-in-Some-clause-untouched g c =
+    let asked = c.in-Some.ensures in
+    let watch = c.watch-status.ensures in
+    let gave = DiskGives g.D.Disk.answers g.D.Disk.faults (g.D.Disk.files c.args.disk.now) c.args.env.now c.args.disk.now c.watch-status.new.disk in
+    rw asked
+    (unwritten_watched gave c.args.env.now (read_after_watch (map string_bytes c.in-Some.rest.now)) (g.S.ByteSource.left c.args.input.now) (g.S.ByteSource.left c.watch-status.new.input) (ending_of c.watch-status.result)
+    (g.K.ByteSink.held c.args.out.now) (g.K.ByteSink.held c.watch-status.new.out) _ _ watch.watches watch.writes)
+
+pub returns-in-Some-clause-unread : goal.returns-in-Some-clause-unread
+returns-in-Some-clause-unread g c =
+    let asked = c.in-Some.ensures in
+    let watch = c.watch-status.ensures in
+    let gave = DiskGives g.D.Disk.answers g.D.Disk.faults (g.D.Disk.files c.args.disk.now) c.args.env.now c.args.disk.now c.watch-status.new.disk in
+    rw asked
+    (unread_watched gave c.args.env.now (read_after_watch (map string_bytes c.in-Some.rest.now)) (g.S.ByteSource.left c.args.input.now) (g.S.ByteSource.left c.watch-status.new.input) (ending_of c.watch-status.result)
+    (g.K.ByteSink.held c.args.out.now) (g.K.ByteSink.held c.watch-status.new.out) _ _ watch.watches watch.reads)
+
+pub returns-in-Some-clause-disk : goal.returns-in-Some-clause-disk
+returns-in-Some-clause-disk g c = let asked = c.in-Some.ensures in rw asked (tt, c.watch-status.ensures.same)
+
+pub returns-in-Some-clause-unasked : goal.returns-in-Some-clause-unasked
+returns-in-Some-clause-unasked g c = let asked = c.in-Some.ensures in rw asked (unasked_watched (read_after_watch (map string_bytes c.in-Some.rest.now)) _ c.watch-status.ensures.unasked)
+
+pub returns-clause-untouched : goal.returns-clause-untouched
+returns-clause-untouched g c = let asked = c.in-None.ensures in rw asked c.answer-status.ensures.untouched
+
+pub returns-clause-unread : goal.returns-clause-unread
+returns-clause-unread g c = let asked = c.in-None.ensures in rw asked c.answer-status.ensures.unread
+
+pub returns-clause-disk : goal.returns-clause-disk
+returns-clause-disk g c =
+    let asked = c.in-None.ensures in
+    let disk = c.answer-status.ensures.disk in
+    rw asked (said_disk _ _ _ _ disk.0 c.say-in-None.ensures.answer, disk.1)
+
+pub returns-clause-unasked : goal.returns-clause-unasked
+returns-clause-unasked g c = let asked = c.in-None.ensures in rw asked c.answer-status.ensures.unasked
