@@ -57,7 +57,7 @@ abbrev pub spelled_moment : List ℕ → Option Instant
 spelled_moment word = option_map (λ secs. record { secs = secs; nanos = 0 }) (number w64 word)
 
 -- this is what the words give, as contracts see it, and the place behind the last one; or the word at this place is bad or missing; or memory ran out
-abbrev pub ReadsOptions : {T G : Type 0} → (T → G) → Result (G × ℕ) ℕ → Result (T × ℕ) WordsFault → Type 0
-ReadsOptions given read (Ok gave) = read ≡ Ok (given gave.0, gave.1)
-ReadsOptions given read (Err (BadWord place)) = read ≡ Err place
-ReadsOptions given read (Err NoMemory) = Unit {0}
+abbrev pub ReadsGiven : {T G : Type 0} → (T → G) → Result (G × ℕ) ℕ → Result (T × ℕ) WordsFault → Type 0
+ReadsGiven given read (Ok gave) = read ≡ Ok (given gave.0, gave.1)
+ReadsGiven given read (Err (BadWord place)) = read ≡ Err place
+ReadsGiven given read (Err NoMemory) = Unit {0}

@@ -1,7 +1,7 @@
 //! The words of a command that has options, most of which have a value, the next word.
 ghost use Rattle.std.specs.Prelude.{◌≡◌, ◌≤◌, map};
 ghost use Rattle.std.specs.String.{string_bytes};
-ghost use Rattle.signed_stream.specs.OptionWords.{ReadsOptions, options_from, spelled_moment};
+ghost use Rattle.signed_stream.specs.OptionWords.{ReadsGiven, options_from, spelled_moment};
 
 use job_text::{TakeWord, WordsFault, parse_i64, take_words};
 use smithy_core::Moment;
@@ -95,7 +95,7 @@ pub fn read_options<'a, T: TakeOption<'a>>(
     words: &'a [String],
 ) -> Result<(T, usize), WordsFault>
     requires { first ≤ 2 }
-    ensures { ReadsOptions T.given (options_from T.rules first (T.given none) (map string_bytes words.now)) result }
+    ensures { ReadsGiven T.given (options_from T.rules first (T.given none) (map string_bytes words.now)) result }
 {
     let mut read = OptionWords {
         given: none,
