@@ -38,7 +38,7 @@ use Rattle.signed_stream.specs.Plan.{TargetRead, TargetSpells, accepted, unaccep
 use Rattle.signed_stream.specs.Chain.{outside_years}
 use Rattle.signed_stream.specs.Sign.{IsRequestError, Unsigned, error_ending, target_fault, unsigned}
 use Rattle.signed_stream.specs.Status.{Ending, RunFault, no_memory, refused}
-use Rattle.signed_stream.proofs.SignLemmas.{TellsFault, outside_told, passed_fault, target_told}
+use Rattle.signed_stream.proofs.SignLemmas.{RefusesFor, outside_refuses, passed_fault, target_refuses}
 use Rattle.signed_stream.proofs.TargetLemmas.{reads_one, reads_one_way}
 use Rattle.operation_program.specs.Attempting.{Scripted, attempts_made, first_attempt_end, heads_text, operation_outcome, scripted_case, scripted_fault, scripted_moment, scripted_request, scripted_rounds, unless_stopped}
 use Rattle.operation_program.specs.Outcome.{GivesOutcome, HaltsAttempts}
@@ -120,7 +120,7 @@ module _ (s : Scripted) (parts : OperationParts) (is : IsPartsOf s parts) (bag :
 
   -- it is refused
   refused_for : (before : List Round) (error : SigV4SigningError) → RefusesSigning parts (attempt_bag bag before) s.at error
-      → TellsFault s.request.target (scripted_moment s before) (scripted_case s before) error
+      → RefusesFor s.request.target (scripted_moment s before) (scripted_case s before) error
   refused_for before error refusal = by_years (is_in_years at) refl reads (tells refusal.target refusal.refused)
     where
       at : Instant
@@ -139,9 +139,9 @@ module _ (s : Scripted) (parts : OperationParts) (is : IsPartsOf s parts) (bag :
 
       by_years : (years : Bool) → is_in_years at ≡ years → (out_of_years at ≡ None → SpellsAs s.request.target refusal.target)
           → option_or (if years then None else Some (Signing (MomentOutOfRange at))) (option_map Signing (unsigned_target (scripted_case s before) refusal.target)) ≡ Some error
-          → TellsFault s.request.target at (scripted_case s before) error
-      by_years false outside spelled told = outside_told _ at _ error outside (let same : error ≡ Signing (MomentOutOfRange at) = cc in same)
-      by_years true within spelled told = target_told _ at _ error refusal.target within (spelled (rw within refl)) told
+          → RefusesFor s.request.target at (scripted_case s before) error
+      by_years false outside spelled told = outside_refuses _ at _ error outside (let same : error ≡ Signing (MomentOutOfRange at) = cc in same)
+      by_years true within spelled told = target_refuses _ at _ error refusal.target within (spelled (rw within refl)) told
 
   -- ## Attempt after attempt
 

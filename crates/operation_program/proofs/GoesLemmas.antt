@@ -20,7 +20,7 @@ use Rattle.signed_stream.specs.Status.{Ending, RunFault, bad_job, bad_words, che
 use Rattle.operation_program.specs.Attempting.{Scripted, attempts_made, heads_text, operation_outcome, scripted_fault, scripted_moment, scripted_request, scripted_rounds, first_attempt_end, unless_stopped}
 use Rattle.operation_program.specs.Carriers.{GoesFor, GoesRead, GoesScripted, IsAfterBytes, IsAfterJob, IsAfterSelected}
 use Rattle.operation_program.specs.Outcome.{GivesText, IsStop}
-use Rattle.operation_program.specs.Running.{CanOperate, CountsFor, EndsByWords, EndsSo, GainsSo, GoesSo, HasFailed, HasOperated, IsOperable, KeepsFiles, KeepsOut, NamesFile, OperationSupplied, OperationWanted, RanOperation, SaysOperation, Supplies, SuppliesRead, TellsFor, outcome_read, outcome_selected, run_outcome, scripted}
+use Rattle.operation_program.specs.Running.{CanOperate, CountsFor, EndsByWords, EndsSo, GainsSo, GoesSo, HasFailed, HasOperated, IsOperable, KeepsFiles, KeepsOut, NamesFile, OperationSupplied, OperationWanted, RanOperation, SaysOperation, Supplies, SuppliesRead, ShowsBytes, outcome_read, outcome_selected, run_outcome, scripted}
 use Rattle.operation_program.specs.Status.{OperationEnding, operation_ending, transport_fault, usual}
 use Rattle.operation_program.specs.declared.status.OperationStatus.{OperationStatus}
 use Rattle.operation_run.specs.Again.{Round}
@@ -138,7 +138,7 @@ input_read gave env wanted left bytes answer before now all short goes = (goes.g
     own : GoesSo (run_outcome env (Ok wanted) bytes goes.given) answer before now
     own = let less : nat_lt most_input (length bytes) ≡ false = grind (arith, nat_tests, short) in rw less goes.goes
 
-    by_left : (left : Option (List ℕ)) → IsAllOf left bytes → (other : List ℕ) → TellsFor (Ok wanted) left other → Supplies gave (Ok wanted) other goes.given × GoesSo (run_outcome env (Ok wanted) other goes.given) answer before now
+    by_left : (left : Option (List ℕ)) → IsAllOf left bytes → (other : List ℕ) → ShowsBytes (Ok wanted) left other → Supplies gave (Ok wanted) other goes.given × GoesSo (run_outcome env (Ok wanted) other goes.given) answer before now
     by_left None all other told = cc
     by_left (Some held) all other told = let same : other ≡ bytes = cc in rw same (goes.found, own)
 
@@ -474,10 +474,10 @@ said_ran gave env read left end answer reads_before reads_now out err said goes 
   writes = said_counts output_fault (λ e. cc) end answer out.faults_before out.faults_now writes said;
 }
   where
-    supplied : (bytes : List ℕ) → TellsFor read left bytes → Supplies gave read bytes goes.0
+    supplied : (bytes : List ℕ) → ShowsBytes read left bytes → Supplies gave read bytes goes.0
     supplied bytes told = (goes.1 bytes told).0
 
-    gone : (bytes : List ℕ) → TellsFor read left bytes → GoesSo (run_outcome env read bytes goes.0) answer out.held_before out.held_now
+    gone : (bytes : List ℕ) → ShowsBytes read left bytes → GoesSo (run_outcome env read bytes goes.0) answer out.held_before out.held_now
     gone bytes told = said_goes _ end answer out.held_before out.held_now (goes.1 bytes told).1 said
 
     by_done : (asked : Result OperationWanted ℕ) (bytes : List ℕ) → Supplies gave asked bytes goes.0 → GoesSo (run_outcome env asked bytes goes.0) answer out.held_before out.held_now → answer ≡ usual done

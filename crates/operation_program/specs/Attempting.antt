@@ -39,9 +39,9 @@ abbrev pub code_error : Option (List ℕ) → Option ErrorTexts
 code_error None = None
 code_error (Some code) = Some (record { code = Some code; message = None })
 
--- the reply that a line tells
-abbrev pub told_reply : ReplyParts → ReplyTexts
-told_reply reply = record { response = record { status = reply.status; headers = date_headers reply.date; skew = None }; error = code_error reply.code }
+-- the reply that a line lists
+abbrev pub listed_reply : ReplyParts → ReplyTexts
+listed_reply reply = record { response = record { status = reply.status; headers = date_headers reply.date; skew = None }; error = code_error reply.code }
 
 -- what an operation is done with: the environment, the request, what is selected to sign with, the service's name, the one moment, and the replies
 pub record Scripted : Type 0 where

@@ -8,7 +8,7 @@ use Rattle.signed_stream.specs.Plan.{FilesRead, TargetRead, TargetSpells}
 use Rattle.signed_stream.specs.Settings.{Selected}
 use Rattle.signed_stream.specs.Status.{bad_job, could_not_read_file, done, no_memory, output_fault, refused}
 use Rattle.operation_program.specs.Attempting.{Scripted, operation_outcome}
-use Rattle.operation_program.specs.Running.{GoesSo, OperationSupplied, OperationWanted, Supplies, SuppliesRead, TellsFor, outcome_read, run_outcome, scripted}
+use Rattle.operation_program.specs.Running.{GoesSo, OperationSupplied, OperationWanted, Supplies, SuppliesRead, ShowsBytes, outcome_read, run_outcome, scripted}
 use Rattle.operation_program.specs.Status.{OperationEnding, transport_fault, usual}
 
 -- what an operation is done with, of a request and replies that were read
@@ -28,10 +28,10 @@ pub record GoesRead (gave : List Place → FilesRead → Type 0) (env : List (Li
   pub found : SuppliesRead gave wanted read given
   pub goes : GoesSo (outcome_read env wanted given read) answer before now
 
--- and for what I/O supplied for an input, where it tells its bytes
+-- and for what I/O supplied for an input, where it shows its bytes
 abbrev pub GoesFor : (List Place → FilesRead → Type 0) → List (List ℕ × List ℕ) → Result OperationWanted ℕ → Option (List ℕ) → OperationEnding → Option (List ℕ) → Option (List ℕ) → Type 0
 GoesFor gave env read left answer before now =
-    (given : OperationSupplied) × ((bytes : List ℕ) → TellsFor read left bytes → Supplies gave read bytes given × GoesSo (run_outcome env read bytes given) answer before now)
+    (given : OperationSupplied) × ((bytes : List ℕ) → ShowsBytes read left bytes → Supplies gave read bytes given × GoesSo (run_outcome env read bytes given) answer before now)
 
 -- the ends once all is selected
 abbrev pub IsAfterSelected : OperationEnding → Type 0

@@ -34,7 +34,7 @@ HaltsAttempts s (refused fault) = (target : TargetRead) × TargetSpells s.reques
 HaltsAttempts s no_memory = Unit {0}
 HaltsAttempts s end = ⊥
 
--- what was sent is what is to be written, or the fault tells how the operation ends
+-- what was sent is what is to be written, or the fault says how the operation ends
 abbrev pub GivesOutcome : Scripted → List RequestTexts → Result Outcome OperationFault → Type 0
 GivesOutcome s sent (Ok outcome) =
     (target : Target) × TargetSpells s.request.target (accepted target) × (operation_outcome s (accepted target) ≡ Ok (heads_text sent outcome.attempts))
@@ -64,7 +64,7 @@ IsStop (usual no_memory) = Unit {0}
 IsStop transport_fault = Unit {0}
 IsStop end = ⊥
 
--- the text is what is to be written, or the status tells how the operation ends; or memory ran out
+-- the text is what is to be written, or the status says how the operation ends; or memory ran out
 abbrev pub GivesText : Scripted → Result (Vec ℕ) OperationStatus → Type 0
 GivesText s (Ok text) = (target : TargetRead) × TargetSpells s.request.target target × (operation_outcome s target ≡ Ok text.items)
 GivesText s (Err status) =

@@ -16,7 +16,7 @@ use Rattle.signed_stream.specs.Saying.{ending_line}
 use Rattle.signed_stream.specs.Settings.{Selected, settings}
 use Rattle.signed_stream.specs.Sources.{selection, source_places}
 use Rattle.signed_stream.specs.Status.{Ending, bad_job, bad_words, could_not_read_file, done, job_too_large, no_memory, output_fault, read_fault}
-use Rattle.operation_program.specs.Attempting.{Scripted, attempts_made, heads_text, operation_outcome, scripted_fault, scripted_request, scripted_rounds, told_reply}
+use Rattle.operation_program.specs.Attempting.{Scripted, attempts_made, heads_text, operation_outcome, scripted_fault, scripted_request, scripted_rounds, listed_reply}
 use Rattle.operation_run.specs.Rounds.{first_there, is_used_up, tries}
 use Rattle.operation_program.specs.Status.{OperationEnding, transport_fault, usual}
 
@@ -57,7 +57,7 @@ scripted env wanted input selected = record {
   selected = selected;
   name = wanted.name;
   at = wanted.at;
-  replies = map told_reply input.replies;
+  replies = map listed_reply input.replies;
 }
 
 -- with what is selected, or how the run ends without it
@@ -77,7 +77,7 @@ run_outcome env (Ok wanted) bytes given =
     if nat_lt most_input (length bytes) then Err (usual job_too_large) else outcome_read env wanted given (operation_job bytes)
 run_outcome env (Err place) bytes given = Err (usual (bad_words place))
 
--- what I/O supplied for what was read; `gave` tells what the disk gave
+-- what I/O supplied for what was read; `gave` says what the disk gave
 pub record SuppliesJob (gave : List Place → FilesRead → Type 0) (wanted : OperationWanted) (input : OperationInput) (given : OperationSupplied) : Type 0 where
   pub files : gave (source_places wanted.profile.files input.request.texts) given.files
   pub target : TargetSpells input.request.target given.target
@@ -115,10 +115,10 @@ pub record GoesSo (outcome : Result (List ℕ) OperationEnding) (answer : Operat
   pub ends : EndsSo outcome answer
   pub gains : GainsSo outcome answer before now
 
--- the input tells these bytes; where the words are bad none is read, and any will do
-abbrev pub TellsFor : Result OperationWanted ℕ → Option (List ℕ) → List ℕ → Type 0
-TellsFor (Ok wanted) left bytes = left ≡ Some bytes
-TellsFor (Err place) left bytes = Unit {0}
+-- the input shows these bytes; where the words are bad none is read, and any will do
+abbrev pub ShowsBytes : Result OperationWanted ℕ → Option (List ℕ) → List ℕ → Type 0
+ShowsBytes (Ok wanted) left bytes = left ≡ Some bytes
+ShowsBytes (Err place) left bytes = Unit {0}
 
 -- where the words of an operation are bad
 abbrev pub UnlessWanted : Result OperationWanted ℕ → Type 0 → Type 0
@@ -131,7 +131,7 @@ EndsByWords (Err place) answer = (answer ≡ usual (bad_words place)) ⊎ (answe
 EndsByWords (Ok wanted) (usual (bad_words place)) = ⊥
 EndsByWords (Ok wanted) answer = Unit {0}
 
--- the answers that leave the output as it was, whether or not the input tells its bytes
+-- the answers that leave the output as it was, whether or not the input shows its bytes
 abbrev pub KeepsOut : OperationEnding → Option (List ℕ) → Option (List ℕ) → Type 0
 KeepsOut (usual done) before now = Unit {0}
 KeepsOut (usual output_fault) before now = Unit {0}
@@ -151,7 +151,7 @@ abbrev pub NamesFile : (List Place → FilesRead → Type 0) → Result Operatio
 NamesFile gave (Ok wanted) path = gave wanted.profile.files (unreadable path)
 NamesFile gave (Err place) path = ⊥
 
--- a count of faults: it rose where the answer tells a fault of its object, and else stayed; memory may run out after a fault
+-- a count of faults: it rose where the answer is a fault of its object, and else stayed; memory may run out after a fault
 abbrev pub CountsFor : Ending → OperationEnding → ℕ → ℕ → Type 0
 CountsFor fault answer before now = (answer ≡ usual fault → RoseOrStands before now) × ((answer ≡ usual fault → ⊥) → (answer ≡ usual no_memory → ⊥) → now ≡ before) × (before ≤ now)
 
@@ -205,22 +205,22 @@ abbrev pub CanOperate : (List Place → FilesRead → Type 0) → List (List ℕ
 CanOperate gave env (Ok wanted) bytes given = (job : IsOperable gave env wanted bytes given) × (is_used_up (scripted_rounds (scripted env wanted job.input job.selected)) ≡ false)
 CanOperate gave env (Err place) bytes given = ⊥
 
--- How a run went: `gave` tells what the disk gave, and the input had this left, whose count of faults was `reads_before` and is `reads_now`. There is what I/O
+-- How a run went: `gave` says what the disk gave, and the input had this left, whose count of faults was `reads_before` and is `reads_now`. There is what I/O
 -- supplied for which all of this holds.
 pub record RanOperation (gave : List Place → FilesRead → Type 0) (env : List (List ℕ × List ℕ)) (read : Result OperationWanted ℕ) (left : Option (List ℕ)) (answer : OperationEnding) (reads_before reads_now : ℕ) (out err : SinkChange) : Type 0 where
   pub given : OperationSupplied
   -- where it is done, the headline
-  pub headline : (bytes : List ℕ) → TellsFor read left bytes → answer ≡ usual done → HasOperated gave env read bytes given out.held_before out.held_now
+  pub headline : (bytes : List ℕ) → ShowsBytes read left bytes → answer ≡ usual done → HasOperated gave env read bytes given out.held_before out.held_now
   -- where the transport failed, no refusal was met and the replies are used up
-  pub failed : (bytes : List ℕ) → TellsFor read left bytes → answer ≡ transport_fault → HasFailed gave env read bytes given
+  pub failed : (bytes : List ℕ) → ShowsBytes read left bytes → answer ≡ transport_fault → HasFailed gave env read bytes given
   -- what can be done with these files is done
-  pub complete : (bytes : List ℕ) → TellsFor read left bytes → (target : TargetRead) → CanOperate gave env read bytes (record given { target = target })
+  pub complete : (bytes : List ℕ) → ShowsBytes read left bytes → (target : TargetRead) → CanOperate gave env read bytes (record given { target = target })
       → EndsSo (Ok []) answer
   -- it ended as the words ask
   pub ended : EndsByWords read answer
-  -- where the input tells its bytes, it ended and the output gained as is to be
-  pub supplied : (bytes : List ℕ) → TellsFor read left bytes → Supplies gave read bytes given
-  pub goes : (bytes : List ℕ) → TellsFor read left bytes → GoesSo (run_outcome env read bytes given) answer out.held_before out.held_now
+  -- where the input shows its bytes, it ended and the output gained as is to be
+  pub supplied : (bytes : List ℕ) → ShowsBytes read left bytes → Supplies gave read bytes given
+  pub goes : (bytes : List ℕ) → ShowsBytes read left bytes → GoesSo (run_outcome env read bytes given) answer out.held_before out.held_now
   -- what the output keeps also where it doesn't
   pub kept : KeepsOut answer out.held_before out.held_now
   -- a file that couldn't be read is one that the words name

@@ -3,7 +3,7 @@ ghost use Rattle.std.specs.Prelude.{◌≡◌, IfOk, map, option_map};
 ghost use Rattle.std.specs.String.{string_bytes};
 ghost use Rattle.job_text.specs.OperationJob.{reply_parts};
 ghost use Rattle.operation_run.specs.Reply.{metadata_texts, reply_texts};
-ghost use Rattle.operation_program.specs.Attempting.{code_error, date_headers, told_reply};
+ghost use Rattle.operation_program.specs.Attempting.{code_error, date_headers, listed_reply};
 
 use job_text::ReplyLine;
 use operation_run::Reply;
@@ -12,7 +12,7 @@ use std::alloc::Global;
 
 /// The replies that the lines spell, in order.
 pub fn replies_of(alloc: Global, lines: &[ReplyLine]) -> Mem<Vec<Reply>>
-    ensures { IfOk result (λ replies. map reply_texts replies.items ≡ map told_reply (map reply_parts lines.now)) }
+    ensures { IfOk result (λ replies. map reply_texts replies.items ≡ map listed_reply (map reply_parts lines.now)) }
 {
     let mut replies = Vec::new(alloc);
     for line in lines {
@@ -23,7 +23,7 @@ pub fn replies_of(alloc: Global, lines: &[ReplyLine]) -> Mem<Vec<Reply>>
 
 // The reply that a line spells.
 fn reply_of(alloc: Global, line: &ReplyLine) -> Mem<Reply>
-    ensures { IfOk result (λ reply. reply_texts reply ≡ told_reply (reply_parts line.now)) }
+    ensures { IfOk result (λ reply. reply_texts reply ≡ listed_reply (reply_parts line.now)) }
 {
     Ok(Reply {
         response: HttpResponse {

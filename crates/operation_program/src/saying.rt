@@ -29,7 +29,7 @@ pub fn say_operation<E: ByteSink>(
 }
 
 fn say_line<E: ByteSink>(status: OperationStatus, line: &str, err: &mut E) -> OperationStatus
-    requires told { operation_ending status ≡ usual done → ⊥ }
+    requires not_done { operation_ending status ≡ usual done → ⊥ }
     requires line { line.now ≡ operation_line (operation_ending status) }
     ensures answer { (operation_ending result ≡ operation_ending status) ⊎ (operation_ending result ≡ usual no_memory) }
     ensures said { SaysOperation (operation_ending result) (E.held err.old) (E.held err.new) (E.faults err.old) (E.faults err.new) }

@@ -4,7 +4,7 @@ ghost use Rattle.job_text.specs.OperationJob.{reply_parts};
 ghost use Rattle.job_text.specs.ProfileTexts.{ProfileTexts};
 ghost use Rattle.operation_run.specs.Reply.{request_texts};
 ghost use Rattle.signed_stream.specs.Settings.{selected_in};
-ghost use Rattle.operation_program.specs.Attempting.{heads_text, request_head, told_reply};
+ghost use Rattle.operation_program.specs.Attempting.{heads_text, request_head, listed_reply};
 ghost use Rattle.operation_program.specs.Outcome.{GivesOutcome, GivesText, IsProgramFault, IsStop, attempt_fault_ending, scripted_over};
 ghost use Rattle.operation_program.specs.Status.{operation_ending};
 
@@ -32,7 +32,7 @@ pub fn operation_text(
     at: Moment,
     lines: &[ReplyLine],
 ) -> Result<Vec<u8>, OperationStatus>
-    ensures gives { (texts : ProfileTexts) → GivesText (scripted_over env.now request.now texts (selected_in settings) name.now at (map told_reply (map reply_parts lines.now))) result }
+    ensures gives { (texts : ProfileTexts) → GivesText (scripted_over env.now request.now texts (selected_in settings) name.now at (map listed_reply (map reply_parts lines.now))) result }
     ensures end { IfErr result (λ status. IsStop (operation_ending status)) }
 {
     let mut script = ScriptedTransport::new(replies_of(alloc, lines)?);

@@ -69,13 +69,13 @@ ChecksOnce wanted read outcome None = Unit {0}
 ChecksOnce wanted read (Ok selected) (Some check) = ChecksSelected wanted read selected check
 ChecksOnce wanted read (Err end) (Some check) = ⊥
 
--- what the files gave, and the check; `gave` tells what the disk gave
+-- what the files gave, and the check; `gave` says what the disk gave
 abbrev pub GavePresigned : (List Place → FilesRead → Type 0) → List (List ℕ × List ℕ) → RequestWanted → Result RequestParts ℕ → PresignSupplied → Type 0
 GavePresigned gave env wanted (Ok read) given =
     gave (source_places wanted.profile.files read.texts) given.files × ChecksOnce wanted read (selection env wanted.profile.service_id given.files) given.check
 GavePresigned gave env wanted (Err place) given = given.check ≡ None
 
--- the moment is the one that the words name, for which the clock isn't asked, or the only one that was taken of the clock; `clock` tells what the clock gave
+-- the moment is the one that the words name, for which the clock isn't asked, or the only one that was taken of the clock; `clock` says what the clock gave
 abbrev pub TakesOne : (List Instant → Type 0) → Option Instant → Instant → Type 0
 TakesOne clock None now = clock (now ∷ [])
 TakesOne clock (Some at) now = (now ≡ at) × clock []
@@ -224,7 +224,7 @@ pub record RanCheck (gave : List Place → FilesRead → Type 0) (clock : List I
   pub headline : (bytes : List ℕ) → left ≡ Some bytes → answer ≡ ends done → HasAccepted gave env wanted bytes given before now
   -- an acceptable request is accepted
   pub complete : (bytes : List ℕ) → left ≡ Some bytes → (at : Instant) → IsAtCheck given.check at → IsAcceptable gave env wanted bytes given.files at → CompletesCheck answer
-  -- where the input tells its bytes, it ended and the output gained as planned
+  -- where the input shows its bytes, it ended and the output gained as planned
   pub planned : (bytes : List ℕ) → left ≡ Some bytes → PlansPresigned gave env wanted bytes given answer before now
   pub moments : TakesMomentOfCheck clock wanted.at given.check
   pub needed : NeedsCheck answer given.check
@@ -237,11 +237,11 @@ abbrev pub RanWords : (List Place → FilesRead → Type 0) → (List Instant �
 RanWords gave clock env (Ok wanted) left answer before now = RanCheck gave clock env wanted left answer before now
 RanWords gave clock env (Err place) left answer before now = ((answer ≡ ends (bad_words place)) ⊎ (answer ≡ ends no_memory)) × clock []
 
--- How a check of a presigned request went with what I/O supplied: `gave` tells what the disk gave and `clock` what the clock gave, and the input had this left,
+-- How a check of a presigned request went with what I/O supplied: `gave` says what the disk gave and `clock` what the clock gave, and the input had this left,
 -- whose count of faults was `reads_before` and is `reads_now`.
 pub record RanPresigned (gave : List Place → FilesRead → Type 0) (clock : List Instant → Type 0) (env : List (List ℕ × List ℕ)) (read : Result RequestWanted ℕ) (left : Option (List ℕ)) (answer : PresignEnding) (reads_before reads_now : ℕ) (out err : SinkChange) : Type 0 where
   pub ran : RanWords gave clock env read left answer out.held_before out.held_now
-  -- what the output keeps also where the input doesn't tell its bytes
+  -- what the output keeps also where the input doesn't show its bytes
   pub kept : KeepsPresigned answer out.held_before out.held_now
   -- what `err` gained
   pub said : SaysPresigned answer err.held_before err.held_now err.faults_before err.faults_now

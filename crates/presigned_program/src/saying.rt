@@ -30,7 +30,7 @@ pub fn say_presigned<E: ByteSink>(
 }
 
 fn say_line<E: ByteSink>(status: PresignStatus, line: &str, err: &mut E) -> PresignStatus
-    requires told { presign_ending status ≡ ends done → ⊥ }
+    requires not_done { presign_ending status ≡ ends done → ⊥ }
     requires line { line.now ≡ presign_line (presign_ending status) }
     ensures answer { (presign_ending result ≡ presign_ending status) ⊎ (presign_ending result ≡ ends no_memory) }
     ensures said { SaysPresigned (presign_ending result) (E.held err.old) (E.held err.new) (E.faults err.old) (E.faults err.new) }

@@ -23,7 +23,7 @@ use Rattle.event_io.specs.Chain.{next_bytes, next_unsigned}
 use Rattle.signed_stream.specs.declared.form.Form.{Form}
 use Rattle.chain_watch.specs.Chain.{IsWholeChain}
 use Rattle.signed_stream.specs.Chain.{Refusal, chain_text, fault_at, first_refusal, frames_text, link_text, outside_years, refusal_at, refusal_fault, streamed_text, text_before, unframed_at, unlinked}
-use Rattle.signed_stream.specs.Halt.{Halts, unless_refused}
+use Rattle.signed_stream.specs.Sending.{EndsEarly, unless_refused}
 use Rattle.signed_stream.specs.Sending.{TakesInTurn, IsRefusedBy, IsSignFault, IsWriteFault, next_refused, sign_ending, write_ending}
 use Rattle.signed_stream.specs.Status.{Ending, RunFault, moment_out_of_range, no_memory, output_fault, refused}
 use Rattle.signed_stream.proofs.YearLemmas.{in_years, years_in}
@@ -216,13 +216,13 @@ module _ (form : Form) where
       )
 
   -- an event wasn't sent: it is refused, or a front of its line was written
-  pub event_halted : (a b c : Option (List ℕ)) (signer : Signer) (place : ℕ) (event : Parts) (events : List Parts) (at : Instant) (moments : List Instant) (signature text : List ℕ) (whole : Option Refusal) (halt : Ending)
+  pub event_ended_early : (a b c : Option (List ℕ)) (signer : Signer) (place : ℕ) (event : Parts) (events : List Parts) (at : Instant) (moments : List Instant) (signature text : List ℕ) (whole : Option Refusal) (early : Ending)
       → first_refusal signer place (event ∷ events) (at ∷ moments) signature ≡ whole
       → GainsRest a b (streamed_from signer place (event ∷ events) (at ∷ moments) signature) text
-      → Halts (unlinked signer place signature event at) (unless_refused (unlinked signer place signature event at) (link_text form signer signature (frame event) at)) b c halt
-      → Halts (refusal_fault whole) text a c halt
-  event_halted a b c signer place event events at moments signature text whole halt decided first sends =
-      by_fault (unlinked signer place signature event at) halt refl sends
+      → EndsEarly (unlinked signer place signature event at) (unless_refused (unlinked signer place signature event at) (link_text form signer signature (frame event) at)) b c early
+      → EndsEarly (refusal_fault whole) text a c early
+  event_ended_early a b c signer place event events at moments signature text whole early decided first sends =
+      by_fault (unlinked signer place signature event at) early refl sends
     where
       none_left : (fault : RunFault) → unlinked signer place signature event at ≡ Some fault → GainsRest a b [] text
       none_left fault is = rw (refused_text signer place (event ∷ events) (at ∷ moments) signature fault (unlinked_refusal signer place event events at moments signature fault is)) at first
@@ -233,8 +233,8 @@ module _ (form : Form) where
           (rw (linked_text signer place event events at moments signature is) (prefix_within b c (link_text form signer signature (frame event) at) _ part))
       cut (Some fault) is part = prefix_join a b c [] text (none_left fault is) part
 
-      by_fault : (fault : Option RunFault) (halt : Ending) → unlinked signer place signature event at ≡ fault
-          → Halts fault (unless_refused fault (link_text form signer signature (frame event) at)) b c halt → Halts (refusal_fault whole) text a c halt
+      by_fault : (fault : Option RunFault) (early : Ending) → unlinked signer place signature event at ≡ fault
+          → EndsEarly fault (unless_refused fault (link_text form signer signature (frame event) at)) b c early → EndsEarly (refusal_fault whole) text a c early
       by_fault fault output_fault is sends = cut fault is sends
       by_fault fault no_memory is sends = cut fault is sends
       by_fault None (refused told) is sends = let wrong : None ≡ Some told = sends.0 in cc
@@ -253,13 +253,13 @@ module _ (form : Form) where
       gains_last a b c (link_text form signer signature [] at) text (rw (ap (text_from signer place [] (at ∷ []) signature) none ∙ chain_nil signer at signature) at first) wrote
 
   -- the closing line wasn't sent
-  closing_halted : (a b c : Option (List ℕ)) (signer : Signer) (place : ℕ) (at : Instant) (signature text : List ℕ) (whole : Option Refusal) (halt : Ending)
+  closing_ended_early : (a b c : Option (List ℕ)) (signer : Signer) (place : ℕ) (at : Instant) (signature text : List ℕ) (whole : Option Refusal) (early : Ending)
       → first_refusal signer place [] (at ∷ []) signature ≡ whole
       → GainsRest a b (streamed_from signer place [] (at ∷ []) signature) text
-      → Halts (outside_years at) (unless_refused (outside_years at) (link_text form signer signature [] at)) b c halt
-      → Halts (refusal_fault whole) text a c halt
-  closing_halted a b c signer place at signature text whole halt decided first =
-      by_fault (outside_years at) refl halt
+      → EndsEarly (outside_years at) (unless_refused (outside_years at) (link_text form signer signature [] at)) b c early
+      → EndsEarly (refusal_fault whole) text a c early
+  closing_ended_early a b c signer place at signature text whole early decided first =
+      by_fault (outside_years at) refl early
     where
       whole_left : outside_years at ≡ None → GainsRest a b (link_text form signer signature [] at) text
       whole_left is =
@@ -269,7 +269,7 @@ module _ (form : Form) where
       none_left : (fault : RunFault) → outside_years at ≡ Some fault → GainsRest a b [] text
       none_left fault is = rw (refused_text signer place [] (at ∷ []) signature fault (rw is refl)) at first
 
-      by_fault : (fault : Option RunFault) → outside_years at ≡ fault → (halt : Ending) → Halts fault (unless_refused fault (link_text form signer signature [] at)) b c halt → Halts (refusal_fault whole) text a c halt
+      by_fault : (fault : Option RunFault) → outside_years at ≡ fault → (early : Ending) → EndsEarly fault (unless_refused fault (link_text form signer signature [] at)) b c early → EndsEarly (refusal_fault whole) text a c early
       by_fault None is (refused told) sends = let wrong : None ≡ Some told = sends.0 in cc
       by_fault None is output_fault sends = prefix_join a b c (link_text form signer signature [] at) text (whole_left is) sends
       by_fault None is no_memory sends = prefix_join a b c (link_text form signer signature [] at) text (whole_left is) sends
@@ -348,13 +348,13 @@ module _ (form : Form) where
           length_snoc (u ∷ ts) = let others = length_snoc ts in omega (arith, others)
 
       -- the next frame wasn't written: it is refused, or a front of it was written
-      pub is_halted : (left : List Parts) (halt : Ending) → SoFar b sent place left signature
-          → Halts (next_refused who place signature left t) (unless_refused (next_refused who place signature left t) (link_text form who signature (next_bytes left) t)) b c halt
-          → (let refusal = first_refusal who 1 events (sent ++ t ∷ []) seed in Halts (refusal_fault refusal) (streamed_text form who events (sent ++ t ∷ []) seed refusal) a c halt)
-      is_halted [] halt so sends =
-          rw (← streamed_first who events (sent ++ t ∷ []) seed) (closing_halted a b c who place t signature _ _ halt (so.refusal (t ∷ [])) (so.gained (t ∷ [])) sends)
-      is_halted (event ∷ left) halt so sends =
-          rw (← streamed_first who events (sent ++ t ∷ []) seed) (event_halted a b c who place event left t [] signature _ _ halt (so.refusal (t ∷ [])) (so.gained (t ∷ [])) sends)
+      pub is_ended_early : (left : List Parts) (early : Ending) → SoFar b sent place left signature
+          → EndsEarly (next_refused who place signature left t) (unless_refused (next_refused who place signature left t) (link_text form who signature (next_bytes left) t)) b c early
+          → (let refusal = first_refusal who 1 events (sent ++ t ∷ []) seed in EndsEarly (refusal_fault refusal) (streamed_text form who events (sent ++ t ∷ []) seed refusal) a c early)
+      is_ended_early [] early so sends =
+          rw (← streamed_first who events (sent ++ t ∷ []) seed) (closing_ended_early a b c who place t signature _ _ early (so.refusal (t ∷ [])) (so.gained (t ∷ [])) sends)
+      is_ended_early (event ∷ left) early so sends =
+          rw (← streamed_first who events (sent ++ t ∷ []) seed) (event_ended_early a b c who place event left t [] signature _ _ early (so.refusal (t ∷ [])) (so.gained (t ∷ [])) sends)
 
     -- memory ran out before the next moment
     pub is_wanting : (b : Option (List ℕ)) (sent : List Instant) (place : ℕ) (left : List Parts) (signature : List ℕ) → SoFar b sent place left signature

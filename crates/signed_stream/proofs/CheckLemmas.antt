@@ -20,13 +20,13 @@ use Rattle.request_check.specs.Sealed.{IsSealed, SealParts}
 use Rattle.request_check.proofs.SealLemmas.{one_seal}
 use Rattle.signed_stream.specs.CheckRecord.{CarriesSeal, ChecksRecord, GoesForSeal, checked_plan, shown_events}
 use Rattle.signed_stream.specs.EventLines.{AreFramed, count_line, event_lines}
-use Rattle.signed_stream.specs.Halt.{Halts, Sends, ended}
+use Rattle.signed_stream.specs.Sending.{EndsEarly, Sends}
 use Rattle.signed_stream.specs.Plan.{GoesAsPlanned, sealed_over, stops, unsought}
 use Rattle.signed_stream.specs.Settings.{Selected}
-use Rattle.signed_stream.specs.Status.{Ending, chain_ending, ending_of, no_memory}
+use Rattle.signed_stream.specs.Status.{Ending, chain_ending, ending_of, no_memory, ended}
 use Rattle.signed_stream.specs.declared.status.Status.{Status}
 use Rattle.signed_stream.specs.declared.status.StreamFault.{StreamFault}
-use Rattle.signed_stream.proofs.EventLineLemmas.{front_halted}
+use Rattle.signed_stream.proofs.EventLineLemmas.{front_ended_early}
 use Rattle.signed_stream.proofs.SendLemmas.{text_goes}
 
 -- ## The events of a chain
@@ -86,8 +86,8 @@ pub count_sent : (before now : Option (List ℕ)) (events : List Parts) → Gain
 unfolding shown_events
 count_sent before now events sends = gains_front before now (count_line (length events)) (event_lines events) sends
 
-pub count_halted : (before now : Option (List ℕ)) (events : List Parts) (halt : Ending) → Halts None (count_line (length events)) before now halt → Halts None (shown_events events) before now halt
+pub count_ended_early : (before now : Option (List ℕ)) (events : List Parts) (early : Ending) → EndsEarly None (count_line (length events)) before now early → EndsEarly None (shown_events events) before now early
 unfolding shown_events
-count_halted before now events halt halts =
+count_ended_early before now events early ends_early =
     let front = count_line (length events) in
-    front_halted before before now front (event_lines events) (front ++ event_lines events) halt (gains_at_start before (front ++ event_lines events)) halts
+    front_ended_early before before now front (event_lines events) (front ++ event_lines events) early (gains_at_start before (front ++ event_lines events)) ends_early

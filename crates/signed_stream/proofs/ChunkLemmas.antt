@@ -14,7 +14,7 @@ use Rattle.aws_chunked.specs.SoundBody.{IsSoundBodyOf}
 use Rattle.aws_chunked.specs.Text.{chunked_text, parts_of}
 use Rattle.aws_chunked.specs.declared.body.AwsChunkedBody.{AwsChunkedBody}
 use Rattle.aws_chunked.proofs.SoundBodyLemmas.{new_sound}
-use Rattle.signed_stream.specs.Halt.{Halts, Sends}
+use Rattle.signed_stream.specs.Sending.{EndsEarly, Sends}
 use Rattle.signed_stream.specs.Status.{Ending, no_memory, output_fault, refused, stream_ending}
 use Rattle.signed_stream.specs.declared.status.StreamFault.{StreamFault}
 use Rattle.signed_stream.specs.Plan.{most_input}
@@ -51,15 +51,15 @@ module _ (before mid now : Option (List ℕ)) (bytes rest text : List ℕ) where
   bytes_gained left is so_far gained =
       gains_join before mid now rest (bytes ++ rest) text (subst (λ (l : List ℕ). GainsRest before mid l text) is so_far) (gains_front mid now bytes rest gained)
 
-  halts_within : (left : List ℕ) (halt : Ending) → left ≡ bytes ++ rest → GainsRest before mid left text → Halts None bytes mid now halt → Halts None text before now halt
-  halts_within left (refused told) is so_far halts = absurd (let no : None ≡ Some told = halts.0 in cc)
-  halts_within left output_fault is so_far halts =
-      prefix_join before mid now (bytes ++ rest) text (subst (λ (l : List ℕ). GainsRest before mid l text) is so_far) (prefix_within mid now bytes rest halts)
-  halts_within left no_memory is so_far halts =
-      prefix_join before mid now (bytes ++ rest) text (subst (λ (l : List ℕ). GainsRest before mid l text) is so_far) (prefix_within mid now bytes rest halts)
-  halts_within left other is so_far halts = absurd halts
+  ends_early_within : (left : List ℕ) (early : Ending) → left ≡ bytes ++ rest → GainsRest before mid left text → EndsEarly None bytes mid now early → EndsEarly None text before now early
+  ends_early_within left (refused told) is so_far ends_early = absurd (let no : None ≡ Some told = ends_early.0 in cc)
+  ends_early_within left output_fault is so_far ends_early =
+      prefix_join before mid now (bytes ++ rest) text (subst (λ (l : List ℕ). GainsRest before mid l text) is so_far) (prefix_within mid now bytes rest ends_early)
+  ends_early_within left no_memory is so_far ends_early =
+      prefix_join before mid now (bytes ++ rest) text (subst (λ (l : List ℕ). GainsRest before mid l text) is so_far) (prefix_within mid now bytes rest ends_early)
+  ends_early_within left other is so_far ends_early = absurd ends_early
 
   -- they aren't
-  pub bytes_halted : (T U : Type 0) (left : List ℕ) (told : StreamFault) → left ≡ bytes ++ rest → GainsRest before mid left text
+  pub bytes_ended_early : (T U : Type 0) (left : List ℕ) (told : StreamFault) → left ≡ bytes ++ rest → GainsRest before mid left text
       → Sends {T = T} None bytes mid now (Err told) → Sends {T = U} None text before now (Err told)
-  bytes_halted T U left told is so_far sends = halts_within left (stream_ending told) is so_far sends
+  bytes_ended_early T U left told is so_far sends = ends_early_within left (stream_ending told) is so_far sends

@@ -13,7 +13,7 @@ use Rattle.env_config.specs.Sections.{FileText}
 use Rattle.signed_stream.specs.Carriers.{GoesForJob, GoesForRecord, GoesForTexts, IsAfterTexts}
 use Rattle.signed_stream.specs.CheckRecord.{CarriesSeal, check_signer, sealed_plan}
 use Rattle.signed_stream.specs.Command.{CheckWanted, Wanted}
-use Rattle.signed_stream.specs.Halt.{Sends, ended}
+use Rattle.signed_stream.specs.Sending.{Sends}
 use Rattle.job_text.specs.Job.{JobParts}
 use Rattle.signed_stream.specs.Options.{IsOptionsOf, wanted_of}
 use Rattle.signed_stream.specs.Plan.{FilesRead, GoesAsPlanned, Plan, SealRead, Supplied, TargetRead, loaded, plan_end, unread, unsought}
@@ -24,7 +24,7 @@ use Rattle.signed_stream.specs.Running.{OfClock}
 use Rattle.signed_stream.specs.Settings.{Selected}
 use Rattle.signed_stream.specs.Shown.{shown_settings}
 use Rattle.signed_stream.specs.Sources.{selection, source_places}
-use Rattle.signed_stream.specs.Status.{Ending, could_not_read_file, output_fault}
+use Rattle.signed_stream.specs.Status.{Ending, could_not_read_file, output_fault, ended}
 use Rattle.signed_stream.specs.Stream.{job_texts}
 use Rattle.signed_stream.specs.Streaming.{Streams, TakesFor, stream_plan, stream_wanted}
 use Rattle.signed_stream.specs.declared.command.options.StreamWords.{StreamWords}
@@ -40,7 +40,7 @@ pub ended_after_texts : {T : Type 0} (answer : Result T StreamFault) → IsAfter
 ended_after_texts (Err faults.SinkFault) = tt
 ended_after_texts other = tt
 
--- the output's fault is told for the sink's alone
+-- the run ends for the output only where the sink failed
 ended_failed : {T : Type 0} (answer : Result T StreamFault) → ended answer ≡ output_fault → answer ≡ Err faults.SinkFault
 ended_failed (Err faults.SinkFault) is = refl
 ended_failed other is = cc
@@ -59,7 +59,7 @@ counts_on a b fault before now first second counts =
     same : {T U : Type 0} (a : Result T StreamFault) (b : Result U StreamFault) → a ≡ Err fault → b ≡ Err fault → b ≡ Err faults.SinkFault → a ≡ Err faults.SinkFault
     same a b first second is = first ∙ ap Err (let e = sym second ∙ is in cc)
 
--- no file is told of
+-- no end names a file
 pub ended_unnamed : {T : Type 0} (answer : Result T StreamFault) (path : List ℕ) → ended answer ≡ could_not_read_file path → ⊥
 ended_unnamed (Err faults.SinkFault) path is = cc
 ended_unnamed other path is = cc

@@ -33,9 +33,8 @@ use Rattle.chain_watch.proofs.WrittenLemmas.{written_accepted}
 use Rattle.signed_stream.specs.Chain.{unlinked, chain_text, first_refusal, frame_text, frames_text}
 use Rattle.signed_stream.specs.Generate.{AreDrawn, closing_signature, generated_case, generated_moment, generated_signer, generated_stream, shown_stream}
 use Rattle.signed_stream.specs.Generator.{draw_after, drawn_bytes, drawn_event, drawn_events, drawn_len, next_draw}
-use Rattle.signed_stream.specs.Halt.{Halts}
 use Rattle.signed_stream.specs.Status.{stream_ending}
-use Rattle.signed_stream.specs.Sending.{SendsChain}
+use Rattle.signed_stream.specs.Sending.{SendsChain, EndsEarly}
 use Rattle.signed_stream.specs.Sign.{SealsFor}
 use Rattle.signed_stream.specs.Written.{written_stream}
 use Rattle.signed_stream.specs.declared.status.StreamFault.{StreamFault}
@@ -232,10 +231,10 @@ pub streaming_wants : (signer : Signer) (events : List Parts) (moments : List In
 streaming_wants signer events moments signature before now fault drawn same calm chain =
     by_fault (chain_text Raw signer events moments signature) fault calm (rw (unrefused signer events moments signature drawn same) at chain.sends)
   where
-    by_fault : (text : List ℕ) (fault : StreamFault) → (fault ≡ faults.SinkFault → ⊥) → Halts None text before now (stream_ending fault) → fault ≡ faults.NoMemory
-    by_fault text faults.NoMemory calm halts = refl
-    by_fault text faults.SinkFault calm halts = absurd (calm refl)
-    by_fault text fault calm halts = let none = halts.0 in cc
+    by_fault : (text : List ℕ) (fault : StreamFault) → (fault ≡ faults.SinkFault → ⊥) → EndsEarly None text before now (stream_ending fault) → fault ≡ faults.NoMemory
+    by_fault text faults.NoMemory calm ends_early = refl
+    by_fault text faults.SinkFault calm ends_early = absurd (calm refl)
+    by_fault text fault calm ends_early = let none = ends_early.0 in cc
 
 -- and where it is, it is the generated one
 pub streaming_done : (events : List Parts) (moments : List Instant) (held : List ℕ) → AreDrawn events → moments ≡ replicate (length moments) generated_moment

@@ -210,7 +210,7 @@ unfolding generated_case
 case_is request identity wanted method headers body signs name signing token_name skew =
     rw (method, headers, body, signs.key_id, signs.token, signs.secret, name, signing, token_name, skew) refl
 
--- a fault that only wants memory tells so
+-- a fault that only wants memory says so
 wants_memory : (fault : StreamFault) → stream_ending fault ≡ no_memory → fault ≡ faults.NoMemory
 wants_memory faults.NoMemory is = refl
 wants_memory faults.SinkFault is = cc
@@ -219,16 +219,16 @@ wants_memory fault is = cc
 -- the request isn't refused
 pub signing_wants : (case : Target → Case) (fault : StreamFault) → case generated_target ≡ generated_case
     → Unsigned (codes "https://gen.amazonaws.com/") generated_moment case (stream_ending fault) → fault ≡ faults.NoMemory
-signing_wants case fault is fails_so = wants_memory fault (by_halt (stream_ending fault) fails_so)
+signing_wants case fault is fails_so = wants_memory fault (by_early (stream_ending fault) fails_so)
   where
     by_target : (target : TargetRead) → (target ≡ unread) ⊎ (target ≡ accepted generated_target) → (told : RunFault) → request_fault generated_moment case target ≡ Some told → ⊥
     by_target target (inl same) told stopped = let none : None ≡ Some told = rw same at stopped in cc
     by_target target (inr same) told stopped = let none : None ≡ Some told = rw (same, is, case_fits) at stopped in cc
 
-    by_halt : (halt : Ending) → Unsigned (codes "https://gen.amazonaws.com/") generated_moment case halt → halt ≡ no_memory
-    by_halt (refused told) unsigned = absurd (by_target unsigned.0 (target_is unsigned.0 unsigned.1) told unsigned.2)
-    by_halt no_memory unsigned = refl
-    by_halt other unsigned = absurd unsigned
+    by_early : (early : Ending) → Unsigned (codes "https://gen.amazonaws.com/") generated_moment case early → early ≡ no_memory
+    by_early (refused told) unsigned = absurd (by_target unsigned.0 (target_is unsigned.0 unsigned.1) told unsigned.2)
+    by_early no_memory unsigned = refl
+    by_early other unsigned = absurd unsigned
 
 -- the signer goes on from the signature of the generated request
 pub signing_seals : (case : Target → Case) (target : Target) (signer : SignerState (Unit {0})) → case generated_target ≡ generated_case

@@ -45,10 +45,9 @@ use Rattle.signed_stream.specs.Running.{CanBeDone, Completes, HasDone, RunsAsPla
 use Rattle.signed_stream.specs.Settings.{Selected, settings}
 use Rattle.signed_stream.specs.ShowSettings.{GaveTexts, IsShowable, settings_plan, shown_plan}
 use Rattle.signed_stream.specs.Shown.{shown_settings}
-use Rattle.signed_stream.specs.Halt.{ended}
 use Rattle.signed_stream.specs.Sign.{IsSignedFor, case_fault, run_fault_for, unsigned}
 use Rattle.signed_stream.specs.Sources.{or_refused, selection, when_selected}
-use Rattle.signed_stream.specs.Status.{Ending, RunFault, done, job_too_large, moment_out_of_range, no_memory, output_fault, read_fault, refused}
+use Rattle.signed_stream.specs.Status.{Ending, RunFault, done, job_too_large, moment_out_of_range, no_memory, output_fault, read_fault, refused, ended}
 use Rattle.signed_stream.specs.Stream.{GaveJob, GaveReading, IsStreamable, IsValid, case_plan, job_plan, selected_plan, streamed, target_plan, written_valid}
 use Rattle.signed_stream.specs.Streaming.{CompletesStream, HasSentStream, IsSentSigned, job_with, stream_plan}
 use Rattle.signed_stream.specs.Written.{case_refusal, written_stream, written_end, written_until}

@@ -6,7 +6,8 @@ use Rattle.env_config.specs.declared.source.EnvConfigFileKind.{EnvConfigFileKind
 use Rattle.signed_stream.specs.Command.{after_seed, bad_word, command, count_given, generator_from, seeded}
 use Rattle.job_text.specs.Numbers.{natural_below}
 use Rattle.signed_stream.specs.ProfileOptions.{is_same_kind, place_kind, place_of}
-use Rattle.signed_stream.specs.Running.{task, read_after_watch, to_run, to_watch}
+use Rattle.signed_stream.specs.Running.{task, to_run, to_watch}
+use Rattle.signed_stream.specs.WatchWords.{read_after_watch}
 use Rattle.signed_stream.specs.declared.command.profile.NamedFile.{NamedFile}
 
 pub command_empty : {A : Type 0} (text : A → List ℕ) (words : List A) → length words < 1 → command (map text words) ≡ bad_word 1

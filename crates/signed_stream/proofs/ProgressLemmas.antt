@@ -12,7 +12,7 @@ use Rattle.chain_watch.specs.Watch.{Watching, left_over, new_watch}
 use Rattle.chain_watch.specs.declared.chain_fault.ChainFault.{ChainFault}
 use Rattle.chain_watch.proofs.WalkLemmas.{walk_joined}
 use Rattle.signed_stream.specs.EventLines.{AreFramed, count_line, event_line, event_lines}
-use Rattle.signed_stream.specs.Halt.{Halts}
+use Rattle.signed_stream.specs.Sending.{EndsEarly}
 use Rattle.signed_stream.specs.Plan.{most_input}
 use Rattle.signed_stream.specs.Status.{Ending, bad_job, bad_words, check_failed, could_not_read_file, done, ending_of, job_too_large, no_memory, output_fault, read_fault, refused, stream_ending}
 use Rattle.signed_stream.specs.WatchChain.{Advances, AreAll, EndsInput, EndsWalk, IsCurrent, IsFit, IsIdle, IsUnfed, ReadsAll, ReadsInput, ReadsSome, ShowsWaiting, StopsShowing, StopsTaking, TakesNext, WalksWaiting, Watches, room_of, shown_chain, walk_taken, walk_with}
@@ -286,15 +286,15 @@ fit_shown old mid new events fit walks watch waiting shown =
 
 -- the lines weren't all written
 pub stops_unwritten : (old mid : Progress) (events : List Parts) (fault : Option ChainFault) (before now : Option (List ℕ)) (told : StreamFault) → WalksWaiting old mid events fault
-    → Halts None (event_lines events) before now (stream_ending told) → StopsShowing (walk_with old []) (stream_ending told) before now
-stops_unwritten old mid events fault before now told walks halts =
-    subst (λ (w : Walk). StopsShowing w (stream_ending told) before now) (sym walks.walked) (by_halt (stream_ending told) halts)
+    → EndsEarly None (event_lines events) before now (stream_ending told) → StopsShowing (walk_with old []) (stream_ending told) before now
+stops_unwritten old mid events fault before now told walks ends_early =
+    subst (λ (w : Walk). StopsShowing w (stream_ending told) before now) (sym walks.walked) (by_early (stream_ending told) ends_early)
   where
-    by_halt : (halt : Ending) → Halts None (event_lines events) before now halt → StopsShowing (record { events = events; at = mid.watch.at }) halt before now
-    by_halt (refused fault) halts = let wrong : None ≡ Some fault = halts.0 in cc
-    by_halt output_fault halts = halts
-    by_halt no_memory halts = halts
-    by_halt other halts = absurd halts
+    by_early : (early : Ending) → EndsEarly None (event_lines events) before now early → StopsShowing (record { events = events; at = mid.watch.at }) early before now
+    by_early (refused fault) ends_early = let wrong : None ≡ Some fault = ends_early.0 in cc
+    by_early output_fault ends_early = ends_early
+    by_early no_memory ends_early = ends_early
+    by_early other ends_early = absurd ends_early
 
 -- memory ran out before a line was written
 pub stops_early : (walked : Walk) (held : Option (List ℕ)) → StopsShowing walked no_memory held held

@@ -35,7 +35,7 @@ use Rattle.job_text.specs.ProfileTexts.{ProfileTexts, profile_texts}
 use Rattle.chain_watch.specs.Walk.{chain_events}
 use Rattle.chain_watch.specs.declared.chain_fault.ChainFault.{ChainFault}
 use Rattle.job_text.specs.Record.{RecordParts, spelled_record}
-use Rattle.signed_stream.specs.Running.{EndsAsAsked, Gave, IsOfCommand, KeepsOutput, OfClock, RunsAsPlanned, TakesMoments, TellsInput, Unless, UnlessCommand, When, comes_late, command_plan, may_be_in_years, may_be_of_frame, read_plan, reads_input, IsOfOutput}
+use Rattle.signed_stream.specs.Running.{EndsAsAsked, Gave, IsOfCommand, KeepsOutput, OfClock, RunsAsPlanned, TakesMoments, ShowsInput, Unless, UnlessCommand, When, comes_late, command_plan, may_be_in_years, may_be_of_frame, read_plan, reads_input, IsOfOutput}
 use Rattle.signed_stream.specs.Settings.{Selected}
 use Rattle.signed_stream.specs.ShowSettings.{GaveTexts, settings_plan, shown_plan}
 use Rattle.signed_stream.specs.Shown.{shown_settings}
@@ -171,7 +171,7 @@ keeps_written late text end answer before now keeps goes = by_answer goes.ends g
     by_answer (inr (inr (inl is))) gains = rw is tt
     by_answer (inr (inr (inr is))) gains = rw is tt
 
--- an answer as planned keeps the output, but where it is done, tells the fault of a frame or was cut short
+-- an answer as planned keeps the output, but where it is done, is refused for the fault of a frame or was cut short
 keeps_target : (form : Form) (text : List ℕ) (case : Target → Case) (events : List Parts) (moments : List Instant) (target : TargetRead) (answer : Ending) (before now : Option (List ℕ))
     → GoesAsPlanned (target_plan form text case events moments target) answer before now → KeepsOutput (may_be_of_frame true) answer before now
 keeps_target form text case events moments unread answer before now goes = keeps_same (may_be_of_frame true) answer before now goes.gains
@@ -354,14 +354,14 @@ module _ (gave : List Place → FilesRead → Type 0) (free : (places : List Pla
 
 -- ## The input
 
--- an input that tells its bytes was read to its end
+-- an input that shows its bytes was read to its end
 pub all_read : (left : Option (List ℕ)) (read bytes : List ℕ) → IsAllOf left read → left ≡ Some bytes → read ≡ bytes
-all_read None read bytes all told = cc
-all_read (Some told_bytes) read bytes all told = all ∙ (let e : Some told_bytes ≡ Some bytes = told in cc)
+all_read None read bytes all shown = cc
+all_read (Some shown_bytes) read bytes all shown = all ∙ (let e : Some shown_bytes ≡ Some bytes = shown in cc)
 
--- a command that reads the input goes with the bytes that it tells
-told_read : (command : Command) (left : Option (List ℕ)) (bytes : List ℕ) → reads_input command ≡ true → TellsInput command left bytes → left ≡ Some bytes
-told_read command left bytes reads told = rw reads at told
+-- a command that reads the input goes with the bytes that it shows
+shown_read : (command : Command) (left : Option (List ℕ)) (bytes : List ℕ) → reads_input command ≡ true → ShowsInput command left bytes → left ≡ Some bytes
+shown_read command left bytes reads shown = rw reads at shown
 
 -- its plan
 plan_of_read : (env : List (List ℕ × List ℕ)) (command : Command) (bytes : List ℕ) (given : Supplied) → length bytes ≤ most_input → command_plan env command bytes given ≡ read_plan env command bytes given
@@ -380,7 +380,7 @@ plan_of_read env command bytes given short = by_command command
 pub read_runs : (gave : List Place → FilesRead → Type 0) (clock : List Instant → Type 0) (env : List (List ℕ × List ℕ)) (command : Command) (left : Option (List ℕ)) (read : List ℕ) (answer : Ending) (before now : Option (List ℕ))
     → reads_input command ≡ true → IsAllOf left read → length read ≤ most_input → GoesForBytes gave clock env command read answer before now → GoesForInput gave clock env command left answer before now
 read_runs gave clock env command left read answer before now reads all short found =
-    (found.given, found.moments, λ bytes told. rw (← all_read left read bytes all (told_read command left bytes reads told)) runs)
+    (found.given, found.moments, λ bytes shown. rw (← all_read left read bytes all (shown_read command left bytes reads shown)) runs)
   where
     plans : (moments : List Instant) → command_plan env command read (record found.given { moments = moments }) ≡ read_plan env command read (record found.given { moments = moments })
     plans moments = plan_of_read env command read (record found.given { moments = moments }) short
@@ -399,11 +399,11 @@ read_runs gave clock env command left read answer before now reads all short fou
 plan_too_large : (env : List (List ℕ × List ℕ)) (command : Command) (left : Option (List ℕ)) (bytes : List ℕ) (given : Supplied)
     → reads_input command ≡ true → IsLongerThan left most_input → left ≡ Some bytes → command_plan env command bytes given ≡ stops job_too_large
 unfolding command_plan
-plan_too_large env command None bytes given is long told = cc
-plan_too_large env command (Some told_bytes) bytes given is long told = by_command command is
+plan_too_large env command None bytes given is long shown = cc
+plan_too_large env command (Some shown_bytes) bytes given is long shown = by_command command is
   where
-    same : told_bytes ≡ bytes
-    same = let e : Some told_bytes ≡ Some bytes = told in cc
+    same : shown_bytes ≡ bytes
+    same = let e : Some shown_bytes ≡ Some bytes = shown in cc
 
     large : nat_lt most_input (length bytes) ≡ true
     large = let past : most_input < length bytes = rw (← same) long in grind (arith, nat_tests)
@@ -416,13 +416,13 @@ plan_too_large env command (Some told_bytes) bytes given is long told = by_comma
 module _ (gave : List Place → FilesRead → Type 0) (free : (places : List Place) → gave places unloaded) (clock : List Instant → Type 0) (unasked : clock []) where
   -- with nothing given
   nothing_runs : (env : List (List ℕ × List ℕ)) (command : Command) (left : Option (List ℕ)) (answer : Ending) (held : Option (List ℕ))
-      → ((bytes : List ℕ) → TellsInput command left bytes → GoesAsPlanned (command_plan env command bytes nothing_given) answer held held) → GoesForInput gave clock env command left answer held held
+      → ((bytes : List ℕ) → ShowsInput command left bytes → GoesAsPlanned (command_plan env command bytes nothing_given) answer held held) → GoesForInput gave clock env command left answer held held
   nothing_runs env command left answer held goes = (
     nothing_given,
     takes_none gave free clock unasked command,
-    λ bytes told. record {
+    λ bytes shown. record {
       supplied = gave_nothing gave free clock unasked env command bytes;
-      goes = goes bytes told;
+      goes = goes bytes shown;
       needed = λ front t rest is. absurd (no_moment front t rest is);
     },
   )
@@ -430,13 +430,13 @@ module _ (gave : List Place → FilesRead → Type 0) (free : (places : List Pla
   pub too_large_runs : (env : List (List ℕ × List ℕ)) (command : Command) (left : Option (List ℕ)) (held : Option (List ℕ)) → reads_input command ≡ true → IsLongerThan left most_input
       → GoesForInput gave clock env command left job_too_large held held
   too_large_runs env command left held is long =
-      nothing_runs env command left job_too_large held (λ bytes told. rw (plan_too_large env command left bytes nothing_given is long (told_read command left bytes is told)) (goes_stopped job_too_large held))
+      nothing_runs env command left job_too_large held (λ bytes shown. rw (plan_too_large env command left bytes nothing_given is long (shown_read command left bytes is shown)) (goes_stopped job_too_large held))
 
   pub read_fault_runs : (env : List (List ℕ × List ℕ)) (command : Command) (left : Option (List ℕ)) (held : Option (List ℕ)) → GoesForInput gave clock env command left read_fault held held
-  read_fault_runs env command left held = nothing_runs env command left read_fault held (λ bytes told. goes_read_fault (command_plan env command bytes nothing_given) held)
+  read_fault_runs env command left held = nothing_runs env command left read_fault held (λ bytes shown. goes_read_fault (command_plan env command bytes nothing_given) held)
 
   pub no_memory_runs : (env : List (List ℕ × List ℕ)) (command : Command) (left : Option (List ℕ)) (held : Option (List ℕ)) → GoesForInput gave clock env command left no_memory held held
-  no_memory_runs env command left held = nothing_runs env command left no_memory held (λ bytes told. goes_no_memory (command_plan env command bytes nothing_given) held)
+  no_memory_runs env command left held = nothing_runs env command left no_memory held (λ bytes shown. goes_no_memory (command_plan env command bytes nothing_given) held)
 
   -- ## Words
 
@@ -444,7 +444,7 @@ module _ (gave : List Place → FilesRead → Type 0) (free : (places : List Pla
   pub bad_word_runs : (env : List (List ℕ × List ℕ)) (command : Command) (place : ℕ) (left : Option (List ℕ)) (held : Option (List ℕ)) → command ≡ bad_word place
       → GoesForInput gave clock env command left (bad_words place) held held
   unfolding command_plan
-  bad_word_runs env command place left held is = rw is (nothing_runs env (bad_word place) left (bad_words place) held (λ bytes told. goes_stopped (bad_words place) held))
+  bad_word_runs env command place left held is = rw is (nothing_runs env (bad_word place) left (bad_words place) held (λ bytes shown. goes_stopped (bad_words place) held))
 
 -- a generated job, for which nothing is asked
 module _ (gave : List Place → FilesRead → Type 0) (free : (places : List Place) → gave places unloaded) (clock : List Instant → Type 0) (unasked : clock []) where
@@ -454,7 +454,7 @@ module _ (gave : List Place → FilesRead → Type 0) (free : (places : List Pla
   generated_runs env seed count left answer before now goes = (
     nothing_given,
     (refl, unasked),
-    λ bytes told. record {
+    λ bytes shown. record {
       supplied = tt;
       goes = goes;
       needed = λ front t rest is. absurd (no_moment front t rest is);

@@ -5,7 +5,7 @@ use Rattle.smithy_core.specs.Outside.{CountsFault}
 use Rattle.env_config.specs.Files.{Place}
 use Rattle.signed_stream.specs.Command.{Command}
 use Rattle.signed_stream.specs.Plan.{FilesRead, GainsAsPlanned, GoesAsPlanned, Plan, Supplied, stops, writes}
-use Rattle.signed_stream.specs.Running.{CountsReads, CountsWrites, EndsAsAsked, KeepsOutput, RunsAsPlanned, When, command_plan}
+use Rattle.signed_stream.specs.Running.{CountsReads, CountsWrites, EndsAsAsked, KeepsDisk, KeepsOutput, RunsAsPlanned, When, command_plan}
 use Rattle.signed_stream.specs.Status.{Ending, RunFault, done, no_memory, output_fault, read_fault, refused}
 use Rattle.signed_stream.proofs.RunLemmas.{asked_no_memory, goes_no_memory}
 
@@ -50,6 +50,11 @@ said_is end answer told (inr is) reached other = absurd (other (sym reached ∙ 
 pub said_when : (test : Bool) (end answer : Ending) (P : Type 0) → When test (end ≡ done → P) → IsSaid end answer → When test (answer ≡ done → P)
 said_when true end answer P ends said = λ is. ends (said_is end answer done said is (λ e. cc))
 said_when false end answer P ends said = tt
+
+-- what the disk keeps at the end it keeps at what is said
+pub said_disk : {D : Type 0} (end answer : Ending) (before now : D) → KeepsDisk end before now → IsSaid end answer → KeepsDisk answer before now
+said_disk end answer before now keeps (inl is) = rw is keeps
+said_disk end answer before now keeps (inr is) = rw is tt
 
 -- ## The counts
 

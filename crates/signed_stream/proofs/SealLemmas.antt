@@ -20,12 +20,12 @@ use Rattle.eventstream.proofs.UnframedLemmas.{unframed_fault}
 use Rattle.event_io.specs.Adapter.{TakesMoment, TakesNone}
 use Rattle.event_io.specs.Chain.{next_bytes, next_unsigned}
 use Rattle.signed_stream.specs.Chain.{first_refusal, frame_text, link_text}
-use Rattle.signed_stream.specs.Halt.{Halts, unless_refused}
+use Rattle.signed_stream.specs.Sending.{EndsEarly, unless_refused}
 use Rattle.signed_stream.specs.Sending.{IsSealer, IsSignFault, IsWriteFault, PutsFrame, Seals, SendsChain, next_refused, sign_ending, write_ending}
 use Rattle.signed_stream.specs.Status.{Ending, RunFault, no_memory, refused, stream_ending}
 use Rattle.signed_stream.specs.declared.form.Form.{Form}
 use Rattle.signed_stream.specs.declared.status.StreamFault.{StreamFault}
-use Rattle.signed_stream.proofs.ChainLemmas.{IsOver, SoFar, begins_so, front_unrefused, goes_on, is_halted, is_over, is_wanting, next_needed, next_passes, sent_needed, sign_refused, unframed_ends, write_refused}
+use Rattle.signed_stream.proofs.ChainLemmas.{IsOver, SoFar, begins_so, front_unrefused, goes_on, is_ended_early, is_over, is_wanting, next_needed, next_passes, sent_needed, sign_refused, unframed_ends, write_refused}
 
 -- ## One message
 
@@ -83,12 +83,12 @@ module _ (who : Signer) (place : ℕ) (signature : List ℕ) (t : Instant) (byte
 
 -- ## The chain
 
--- a frame that is refused is halted before it is written
-refused_before : (stopped : Option RunFault) (told : RunFault) (line : List ℕ) (held : Option (List ℕ)) → stopped ≡ Some told → Halts stopped (unless_refused stopped line) held held (refused told)
+-- a frame that is refused ends early, before it is written
+refused_before : (stopped : Option RunFault) (told : RunFault) (line : List ℕ) (held : Option (List ℕ)) → stopped ≡ Some told → EndsEarly stopped (unless_refused stopped line) held held (refused told)
 refused_before stopped told line held is = rw is (refl, gains_nothing held)
 
--- running out of memory halts it too
-wanting_before : (stopped : Option RunFault) (line : List ℕ) (held : Option (List ℕ)) → Halts stopped (unless_refused stopped line) held held no_memory
+-- and so does one that finds no memory
+wanting_before : (stopped : Option RunFault) (line : List ℕ) (held : Option (List ℕ)) → EndsEarly stopped (unless_refused stopped line) held held no_memory
 wanting_before stopped line held = prefix_at_start held _
 
 module _ {C : Type 0} (clock : Clock.Ghosts C) (form : Form) (who : Signer) (events : List Parts) (seed : List ℕ) (a : Option (List ℕ)) (old_moments : List Instant) (start : C) where
@@ -176,13 +176,13 @@ module _ {C : Type 0} (clock : Clock.Ghosts C) (form : Form) (who : Signer) (eve
         line = link_text form who is_open.signature (next_bytes left) t
 
         -- with one moment more the frame wasn't written
-        halted_at : (c : Option (List ℕ)) (fault : StreamFault) → Halts stopped (unless_refused stopped line) b c (stream_ending fault) → HasSentChain c new_moments after (Err fault)
-        halted_at c fault halts = (
+        ended_early_at : (c : Option (List ℕ)) (fault : StreamFault) → EndsEarly stopped (unless_refused stopped line) b c (stream_ending fault) → HasSentChain c new_moments after (Err fault)
+        ended_early_at c fault ends_early = (
           at.sent ++ t ∷ [],
           takes.0 ∙ ap (λ (ms : List Instant). ms ++ t ∷ []) at.gained ∙ append_assoc old_moments at.sent (t ∷ []),
           given_more clock start now after at.sent t at.given takes.1,
           record {
-            sends = is_halted form who events seed a b c at.sent place is_open.signature t left (stream_ending fault) is_open.so halts;
+            sends = is_ended_early form who events seed a b c at.sent place is_open.signature t left (stream_ending fault) is_open.so ends_early;
             whole = tt;
             next = next_needed who events seed at.sent unrefused t (let count = is_open.so.counted in omega (arith, count));
           },
@@ -199,12 +199,12 @@ module _ {C : Type 0} (clock : Clock.Ghosts C) (form : Form) (who : Signer) (eve
           pub unsealed_at : (fault : StreamFault) → SealsNext (Err fault) → HasSentChain b new_moments after (Err fault)
           unsealed_at fault seals = by_fault (seals_left (Err fault) seals)
             where
-              halts : {halt : Ending} → stream_ending fault ≡ halt → Halts stopped (unless_refused stopped line) b b halt → HasSentChain b new_moments after (Err fault)
-              halts is halted = halted_at b fault (subst (λ (h : Ending). Halts stopped (unless_refused stopped line) b b h) (sym is) halted)
+              ends_early : {early : Ending} → stream_ending fault ≡ early → EndsEarly stopped (unless_refused stopped line) b b early → HasSentChain b new_moments after (Err fault)
+              ends_early is ended_early = ended_early_at b fault (subst (λ (h : Ending). EndsEarly stopped (unless_refused stopped line) b b h) (sym is) ended_early)
 
               by_fault : Seals who place is_open.signature left t bytes new_told (Err fault) → HasSentChain b new_moments after (Err fault)
-              by_fault (inl wants) = halts wants (wanting_before stopped line b)
-              by_fault (inr (told_fault, is, refuses)) = halts is (refused_before stopped told_fault line b refuses)
+              by_fault (inl wants) = ends_early wants (wanting_before stopped line b)
+              by_fault (inr (told_fault, is, refuses)) = ends_early is (refused_before stopped told_fault line b refuses)
 
           module _ (result : Unit {0}) (seals : SealsNext (Ok result)) where
             sealed_left : Seals who place is_open.signature left t bytes new_told (Ok result)
@@ -215,8 +215,8 @@ module _ {C : Type 0} (clock : Clock.Ghosts C) (form : Form) (who : Signer) (eve
             text_is = ap (frame_text form) sealed_left.1
 
             -- it wasn't written whole
-            pub cut_at : (c : Option (List ℕ)) (fault : StreamFault) → Halts None (frame_text form bytes) b c (stream_ending fault) → HasSentChain c new_moments after (Err fault)
-            cut_at c fault halts = halted_at c fault (rw sealed_left.0 (rw text_is at halts))
+            pub cut_at : (c : Option (List ℕ)) (fault : StreamFault) → EndsEarly None (frame_text form bytes) b c (stream_ending fault) → HasSentChain c new_moments after (Err fault)
+            cut_at c fault ends_early = ended_early_at c fault (rw sealed_left.0 (rw text_is at ends_early))
 
             -- it was written
             pub goes_at : (c : Option (List ℕ)) → Gains b c (frame_text form bytes) → IsAt c new_moments after (place + 1) others new_told

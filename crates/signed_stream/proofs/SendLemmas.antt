@@ -12,11 +12,10 @@ use Rattle.sigv4.specs.Signed.{signature_of}
 use Rattle.signed_stream.specs.declared.form.Form.{Form}
 use Rattle.signed_stream.specs.declared.status.StreamFault.{StreamFault}
 use Rattle.signed_stream.specs.Chain.{Refusal, refusal_fault, streamed_text}
-use Rattle.signed_stream.specs.Halt.{Halts, Sends, ended}
 use Rattle.signed_stream.specs.Plan.{GoesAsPlanned, writes}
 use Rattle.signed_stream.specs.Running.{IsOfOutput}
-use Rattle.signed_stream.specs.Sending.{IsWhole, SendsAll, SendsChain}
-use Rattle.signed_stream.specs.Status.{Ending, RunFault, done, no_memory, output_fault, refused, stream_ending}
+use Rattle.signed_stream.specs.Sending.{IsWhole, SendsAll, SendsChain, EndsEarly, Sends}
+use Rattle.signed_stream.specs.Status.{Ending, RunFault, done, no_memory, output_fault, refused, stream_ending, ended}
 use Rattle.signed_stream.specs.Written.{signed_head, written_stream, written_before, written_end, written_until}
 use Rattle.signed_stream.proofs.ChainLemmas.{sent_needed}
 
@@ -28,25 +27,25 @@ written_lines form None target c events moments = refl
 written_lines form (Some refusal) target c events moments = refl
 
 -- a back is sent after its front
-back_halted : (a b c : Option (List ℕ)) (front back : List ℕ) (fault : Option RunFault) (halt : Ending)
-    → Gains a b front → Halts fault back b c halt → Halts fault (front ++ back) a c halt
-back_halted a b c front back fault (refused told) first second = (second.0, gains_last a b c back (front ++ back) (gains_front a b front back first) second.1)
-back_halted a b c front back fault output_fault first second = prefix_join a b c back (front ++ back) (gains_front a b front back first) second
-back_halted a b c front back fault no_memory first second = prefix_join a b c back (front ++ back) (gains_front a b front back first) second
-back_halted a b c front back fault other first second = absurd second
+back_ended_early : (a b c : Option (List ℕ)) (front back : List ℕ) (fault : Option RunFault) (early : Ending)
+    → Gains a b front → EndsEarly fault back b c early → EndsEarly fault (front ++ back) a c early
+back_ended_early a b c front back fault (refused told) first second = (second.0, gains_last a b c back (front ++ back) (gains_front a b front back first) second.1)
+back_ended_early a b c front back fault output_fault first second = prefix_join a b c back (front ++ back) (gains_front a b front back first) second
+back_ended_early a b c front back fault no_memory first second = prefix_join a b c back (front ++ back) (gains_front a b front back first) second
+back_ended_early a b c front back fault other first second = absurd second
 
 back_sent : {T : Type 0} (a b c : Option (List ℕ)) (front back : List ℕ) (fault : Option RunFault) (answer : Result T StreamFault)
     → Gains a b front → Sends fault back b c answer → Sends fault (front ++ back) a c answer
 back_sent a b c front back fault (Ok x) first second = (second.0, gains_last a b c back (front ++ back) (gains_front a b front back first) second.1)
-back_sent a b c front back fault (Err told) first second = back_halted a b c front back fault (stream_ending told) first second
+back_sent a b c front back fault (Err told) first second = back_ended_early a b c front back fault (stream_ending told) first second
 
 -- a front that isn't whole is a front of all
-front_halted : (a b : Option (List ℕ)) (front back : List ℕ) (fault : Option RunFault) (halt : Ending)
-    → Halts None front a b halt → Halts fault (front ++ back) a b halt
-front_halted a b front back fault (refused told) halts = let wrong : None ≡ Some told = halts.0 in cc
-front_halted a b front back fault output_fault halts = prefix_within a b front back halts
-front_halted a b front back fault no_memory halts = prefix_within a b front back halts
-front_halted a b front back fault other halts = absurd halts
+front_ended_early : (a b : Option (List ℕ)) (front back : List ℕ) (fault : Option RunFault) (early : Ending)
+    → EndsEarly None front a b early → EndsEarly fault (front ++ back) a b early
+front_ended_early a b front back fault (refused told) ends_early = let wrong : None ≡ Some told = ends_early.0 in cc
+front_ended_early a b front back fault output_fault ends_early = prefix_within a b front back ends_early
+front_ended_early a b front back fault no_memory ends_early = prefix_within a b front back ends_early
+front_ended_early a b front back fault other ends_early = absurd ends_early
 
 module _ {T : Type 0} (form : Form) (head : List ℕ) (who : Signer) (events : List Parts) (seed : List ℕ) where
   -- frames after a head that was sent
@@ -59,10 +58,10 @@ module _ {T : Type 0} (form : Form) (head : List ℕ) (who : Signer) (events : L
   }
 
   -- a head that wasn't
-  pub halted_before : (a b : Option (List ℕ)) (told : StreamFault) → Halts None head a b (stream_ending told)
+  pub ended_early_before : (a b : Option (List ℕ)) (told : StreamFault) → EndsEarly None head a b (stream_ending told)
       → SendsAll {T = T} form head who events seed a b [] (Err told)
-  halted_before a b told halts = record {
-    sends = front_halted a b head (streamed_text form who events [] seed None) None (stream_ending told) halts;
+  ended_early_before a b told ends_early = record {
+    sends = front_ended_early a b head (streamed_text form who events [] seed None) None (stream_ending told) ends_early;
     whole = tt;
     next = sent_needed who events seed [] refl (omega arith);
   }
@@ -74,33 +73,33 @@ pub sends_goes : {T : Type 0} (refusal : Option Refusal) (text : List ℕ) (even
 sends_goes None text events moments before now (Ok x) sends counted =
     let same : (length moments == length events + 1) ≡ true = eq-eqb _ _ counted in record { ends = rw same (inl refl); gains = sends.1 }
 sends_goes (Some refusal) text events moments before now (Ok x) sends counted = let wrong : Some refusal.fault ≡ None = sends.0 in cc
-sends_goes refusal text events moments before now (Err told) sends counted = by_halt refusal (stream_ending told) sends
+sends_goes refusal text events moments before now (Err told) sends counted = by_early refusal (stream_ending told) sends
   where
-    by_halt : (refusal : Option Refusal) (halt : Ending) → Halts (refusal_fault refusal) text before now halt → GoesAsPlanned (writes text (written_end refusal events moments)) halt before now
-    by_halt None (refused told) halts = let wrong : None ≡ Some told = halts.0 in cc
-    by_halt (Some refusal) (refused told) halts = let same : refusal.fault ≡ told = (let is : Some refusal.fault ≡ Some told = halts.0 in cc) in record { ends = rw same (inl refl); gains = halts.1 }
-    by_halt refusal output_fault halts = record { ends = inr (inr (inl refl)); gains = halts }
-    by_halt refusal no_memory halts = record { ends = inr (inr (inr refl)); gains = halts }
-    by_halt refusal other halts = absurd halts
+    by_early : (refusal : Option Refusal) (early : Ending) → EndsEarly (refusal_fault refusal) text before now early → GoesAsPlanned (writes text (written_end refusal events moments)) early before now
+    by_early None (refused told) ends_early = let wrong : None ≡ Some told = ends_early.0 in cc
+    by_early (Some refusal) (refused told) ends_early = let same : refusal.fault ≡ told = (let is : Some refusal.fault ≡ Some told = ends_early.0 in cc) in record { ends = rw same (inl refl); gains = ends_early.1 }
+    by_early refusal output_fault ends_early = record { ends = inr (inr (inl refl)); gains = ends_early }
+    by_early refusal no_memory ends_early = record { ends = inr (inr (inr refl)); gains = ends_early }
+    by_early refusal other ends_early = absurd ends_early
 
 -- a text alone
 pub text_goes : {T : Type 0} (text : List ℕ) (before now : Option (List ℕ)) (answer : Result T StreamFault) → Sends None text before now answer → GoesAsPlanned (writes text done) (ended answer) before now
 text_goes text before now (Ok x) sends = record { ends = inl refl; gains = sends.1 }
-text_goes text before now (Err told) sends = by_halt (stream_ending told) sends
+text_goes text before now (Err told) sends = by_early (stream_ending told) sends
   where
-    by_halt : (halt : Ending) → Halts None text before now halt → GoesAsPlanned (writes text done) halt before now
-    by_halt (refused told) halts = let wrong : None ≡ Some told = halts.0 in cc
-    by_halt output_fault halts = record { ends = inr (inr (inl refl)); gains = halts }
-    by_halt no_memory halts = record { ends = inr (inr (inr refl)); gains = halts }
-    by_halt other halts = absurd halts
+    by_early : (early : Ending) → EndsEarly None text before now early → GoesAsPlanned (writes text done) early before now
+    by_early (refused told) ends_early = let wrong : None ≡ Some told = ends_early.0 in cc
+    by_early output_fault ends_early = record { ends = inr (inr (inl refl)); gains = ends_early }
+    by_early no_memory ends_early = record { ends = inr (inr (inr refl)); gains = ends_early }
+    by_early other ends_early = absurd ends_early
 
 -- which ends for no more than the output and memory
 pub text_ends : {T : Type 0} (text : List ℕ) (before now : Option (List ℕ)) (answer : Result T StreamFault) → Sends None text before now answer → IsOfOutput (ended answer)
 text_ends text before now (Ok x) sends = tt
-text_ends text before now (Err told) sends = by_halt (stream_ending told) sends
+text_ends text before now (Err told) sends = by_early (stream_ending told) sends
   where
-    by_halt : (halt : Ending) → Halts None text before now halt → IsOfOutput halt
-    by_halt (refused told) halts = let wrong : None ≡ Some told = halts.0 in cc
-    by_halt output_fault halts = tt
-    by_halt no_memory halts = tt
-    by_halt other halts = absurd halts
+    by_early : (early : Ending) → EndsEarly None text before now early → IsOfOutput early
+    by_early (refused told) ends_early = let wrong : None ≡ Some told = ends_early.0 in cc
+    by_early output_fault ends_early = tt
+    by_early no_memory ends_early = tt
+    by_early other ends_early = absurd ends_early

@@ -71,9 +71,9 @@ passed_fault true t None none = refl
 passed_fault true t (Some error) none = cc
 passed_fault false t error none = cc
 
--- the error of a request that isn't signed for this fault, and how it halts
-abbrev pub TellsFault : List ℕ → Instant → (Target → Case) → SigV4SigningError → Type 0
-TellsFault text at case error = IsRequestError error × Unsigned text at case (error_ending error)
+-- the error of a request that isn't signed for this fault, and how its run ends
+abbrev pub RefusesFor : List ℕ → Instant → (Target → Case) → SigV4SigningError → Type 0
+RefusesFor text at case error = IsRequestError error × Unsigned text at case (error_ending error)
 
 part_error : (error : SigningError) → IsPartError error → IsRequestError (auth.Signing error)
 part_error (errors.InvalidHeaderName place) test = tt
@@ -88,21 +88,21 @@ test_error c error (inl target) = rw target.0 tt
 test_error c error (inr part) = part_error error part
 
 -- memory that ran out
-no_memory_told : (text : List ℕ) (at : Instant) (case : Target → Case) (error : SigV4SigningError) → error ≡ auth.NoMemory → TellsFault text at case error
-no_memory_told text at case error is = rw is (tt, tt)
+no_memory_refuses : (text : List ℕ) (at : Instant) (case : Target → Case) (error : SigV4SigningError) → error ≡ auth.NoMemory → RefusesFor text at case error
+no_memory_refuses text at case error is = rw is (tt, tt)
 
 -- the moment lies outside the years
-pub outside_told : (text : List ℕ) (at : Instant) (case : Target → Case) (error : SigV4SigningError) → is_in_years at ≡ false
-    → error ≡ auth.Signing (errors.MomentOutOfRange at) → TellsFault text at case error
-outside_told text at case error years is = rw is (tt, (unread, tt, rw years refl))
+pub outside_refuses : (text : List ℕ) (at : Instant) (case : Target → Case) (error : SigV4SigningError) → is_in_years at ≡ false
+    → error ≡ auth.Signing (errors.MomentOutOfRange at) → RefusesFor text at case error
+outside_refuses text at case error years is = rw is (tt, (unread, tt, rw years refl))
 
 -- the target isn't read, or a test of the request fails
-pub target_told : (text : List ℕ) (at : Instant) (case : Target → Case) (error : SigV4SigningError) (target : Option Target) → is_in_years at ≡ true → SpellsAs text target
-    → option_map auth.Signing (unsigned_target case target) ≡ Some error → TellsFault text at case error
-target_told text at case error None years reads is =
+pub target_refuses : (text : List ℕ) (at : Instant) (case : Target → Case) (error : SigV4SigningError) (target : Option Target) → is_in_years at ≡ true → SpellsAs text target
+    → option_map auth.Signing (unsigned_target case target) ≡ Some error → RefusesFor text at case error
+target_refuses text at case error None years reads is =
     let same : error ≡ auth.Signing errors.InvalidUri = cc in
     rw same (tt, (unaccepted, reads, rw years refl))
-target_told text at case error (Some target) years reads is = by_error (unsigned (case target)) refl is
+target_refuses text at case error (Some target) years reads is = by_error (unsigned (case target)) refl is
   where
     by_error : (found : Option SigningError) → unsigned (case target) ≡ found → option_map auth.Signing found ≡ Some error
         → IsRequestError error × Unsigned text at case (error_ending error)
@@ -200,8 +200,8 @@ module _ (request copy : HttpRequest) (identity : Identity) (region : List ℕ) 
       )
 
   -- a request that isn't
-  pub unsigned_as_asked : (halt : Ending) → Unsigned (string_bytes copy.target) (request_moment asked first) (identity_case copy identity region asked first) halt
-      → Unsigned (string_bytes request.target) (request_moment wanted first) (identity_case request identity region wanted first) halt
+  pub unsigned_as_asked : (early : Ending) → Unsigned (string_bytes copy.target) (request_moment asked first) (identity_case copy identity region asked first) early
+      → Unsigned (string_bytes request.target) (request_moment wanted first) (identity_case request identity region wanted first) early
   unsigned_as_asked (refused told) (t, spells, stopped) = (t, rw target at spells, sym (fault_is t) ∙ stopped)
   unsigned_as_asked no_memory free = tt
   unsigned_as_asked other wrong = absurd wrong
@@ -227,25 +227,25 @@ module _ {F : Type 0} (calls : Shared F (Bor SigningSettings × (Bor SigV4Operat
 
   -- a request that isn't
   pub refused_job : (new : HttpRequest) (error : SigV4SigningError) → SignsByInputs calls (Some closure) identity inputs first old new (Err error)
-      → TellsFault (string_bytes old.target) (request_moment wanted first) (identity_case old identity region wanted first) error
-  refused_job new error (inr is) = no_memory_told (string_bytes old.target) (request_moment wanted first) (identity_case old identity region wanted first) error is
+      → RefusesFor (string_bytes old.target) (request_moment wanted first) (identity_case old identity region wanted first) error
+  refused_job new error (inr is) = no_memory_refuses (string_bytes old.target) (request_moment wanted first) (identity_case old identity region wanted first) error is
   refused_job new error (inl stopped) =
       by_answer stopped.answer (gives (given_config inputs) stopped.answer (stopped.asked asks.before)) (stopped.read asks.before) (rw asks.before at stopped.refused)
     where
       by_years : (years : Bool) → is_in_years (request_moment wanted first) ≡ years
           → (out_of_years (request_moment wanted first) ≡ None → SpellsAs (string_bytes old.target) stopped.target)
           → option_or (if years then None else Some (auth.Signing (errors.MomentOutOfRange (request_moment wanted first)))) (option_map auth.Signing (unsigned_target (identity_case old identity region wanted first) stopped.target)) ≡ Some error
-          → TellsFault (string_bytes old.target) (request_moment wanted first) (identity_case old identity region wanted first) error
-      by_years false outside reads is = outside_told _ (request_moment wanted first) _ error outside (let same : error ≡ auth.Signing (errors.MomentOutOfRange (request_moment wanted first)) = cc in same)
-      by_years true within reads is = target_told _ (request_moment wanted first) _ error stopped.target within (reads (rw within refl)) is
+          → RefusesFor (string_bytes old.target) (request_moment wanted first) (identity_case old identity region wanted first) error
+      by_years false outside reads is = outside_refuses _ (request_moment wanted first) _ error outside (let same : error ≡ auth.Signing (errors.MomentOutOfRange (request_moment wanted first)) = cc in same)
+      by_years true within reads is = target_refuses _ (request_moment wanted first) _ error stopped.target within (reads (rw within refl)) is
 
       by_answer : (answer : NameAnswer) → GivesName wanted.token_name answer
           → (refusal_before_target (chosen inputs first) answer ≡ None → SpellsAs (string_bytes old.target) stopped.target)
           → option_or (refusal_before_target (chosen inputs first) answer) (option_map auth.Signing (unsigned_target (chosen_case old identity (chosen inputs first) (name_in answer)) stopped.target)) ≡ Some error
-          → TellsFault (string_bytes old.target) (request_moment wanted first) (identity_case old identity region wanted first) error
+          → RefusesFor (string_bytes old.target) (request_moment wanted first) (identity_case old identity region wanted first) error
       by_answer (Err e) is reads failed =
           let told : Some (override_error e) ≡ Some error = failed in
           let same : error ≡ auth.NoMemory = (let first : Some (override_error overrides.NoMemory) ≡ Some error = rw is at told in cc) in
-          no_memory_told (string_bytes old.target) (request_moment wanted first) (identity_case old identity region wanted first) error same
+          no_memory_refuses (string_bytes old.target) (request_moment wanted first) (identity_case old identity region wanted first) error same
       by_answer (Ok name) named reads failed =
           by_years (is_in_years (request_moment wanted first)) refl (rw asks.chosen_is at reads) (rw (asks.chosen_is, named) at failed)

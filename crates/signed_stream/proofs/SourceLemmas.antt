@@ -48,7 +48,7 @@ named_grows start before now named i other within had added same =
     let next : take (i + 1) named ≡ take i named ++ file ∷ [] = rw (add-one i) (take-suc named i other within) in
     rw (chosen_grows before now (place_of file ∷ []) added same, had, next, map-append place_of (take i named) (file ∷ []), append_assoc start (map place_of (take i named)) (place_of file ∷ [])) refl
 
--- `answers` is the disk's own relation of one read, `reads` its count of faults, and `tells` what it tells of its files
+-- `answers` is the disk's own relation of one read, `reads` its count of faults, and `tells` what it shows of its files
 module _ {D : Type 0} (answers : D → List ℕ → Result (Vec ℕ) DiskError → D → Type 0) (reads : D → ℕ) (tells : Option (List (List ℕ × List ℕ))) (env : List (List ℕ × List ℕ)) where
   -- ## A file that couldn't be read
 

@@ -1,5 +1,5 @@
 -- How a request that is signed and its events go as planned.
-use Rattle.std.proofs.Common.{◌≡◌, ◌==◌, ℕ, ◌+◌, ◌≤◌, inr, Bool, true, false, List, [], ◌∷◌, ◌++◌, length, Option, Some, None, refl, sym, ap, ◌∙◌, subst, arith}
+use Rattle.std.proofs.Common.{◌≡◌, ◌==◌, ℕ, ◌+◌, ◌≤◌, inr, Bool, true, false, List, [], ◌∷◌, ◌++◌, length, Option, Some, None, refl, sym, ap, ◌∙◌, subst, append-nil, arith}
 use Rattle.std.specs.Prelude.{Result, Ok, Err, string_bytes, if◌then◌else◌}
 use Rattle.std.specs.Option.{option_or}
 use Rattle.std.proofs.lemmas.Bool.Decides.{nat_tests}
@@ -17,13 +17,12 @@ use Rattle.env_config.specs.Sections.{FileText}
 use Rattle.signed_stream.specs.Case.{job_case, request_moment}
 use Rattle.signed_stream.specs.Chain.{first_refusal}
 use Rattle.signed_stream.specs.Command.{Wanted}
-use Rattle.signed_stream.specs.Halt.{ended}
 use Rattle.job_text.specs.Job.{JobParts}
 use Rattle.signed_stream.specs.Plan.{GoesAsPlanned, IsNeeded, Plan, TargetRead, TargetSpells, accepted, stops, unaccepted, unread}
 use Rattle.signed_stream.specs.Sending.{SendsAll}
 use Rattle.signed_stream.specs.Settings.{GivesSettings, Selected, settings}
 use Rattle.signed_stream.specs.Sign.{IsSignedFor, SealsFor, Unsigned, case_fault, request_fault, target_fault}
-use Rattle.signed_stream.specs.Status.{Ending, RunFault, invalid_uri, missing_credentials, missing_signing_region, moment_out_of_range, no_memory, parse_error, refused, settings_ending, stream_ending}
+use Rattle.signed_stream.specs.Status.{Ending, RunFault, invalid_uri, missing_credentials, missing_signing_region, moment_out_of_range, no_memory, parse_error, refused, settings_ending, stream_ending, ended}
 use Rattle.signed_stream.specs.Stream.{IsValid, case_plan, request_plan, selected_plan, target_plan, valid_case, written_valid}
 use Rattle.signed_stream.specs.Streaming.{CompletesStream, HasSentStream, SignsAndStreams, Streams, job_with, stream_plan}
 use Rattle.signed_stream.specs.Written.{case_refusal, head_in_form}
@@ -32,7 +31,7 @@ use Rattle.signed_stream.specs.declared.settings.SettingsFault.{SettingsFault}
 use Rattle.signed_stream.specs.declared.settings.SettingsFault.TheVariants as faults
 use Rattle.signed_stream.specs.declared.status.StreamFault.{StreamFault}
 use Rattle.signed_stream.specs.declared.status.StreamFault.TheVariants as stream
-use Rattle.signed_stream.proofs.RunLemmas.{goes_no_memory, goes_stopped}
+use Rattle.signed_stream.proofs.RunLemmas.{goes_no_memory, goes_stopped, no_moment}
 use Rattle.signed_stream.proofs.SendLemmas.{sends_goes, written_lines}
 
 -- a fault that stops
@@ -83,8 +82,8 @@ module _ (j : JobParts) (wanted : Wanted) (selected : Selected) (first : Instant
       no_more (v ∷ front) e = cc
 
   -- a request that isn't signed
-  pub unsigned_goes : (text : List ℕ) (halt : Ending) (held : Option (List ℕ)) → text ≡ j.target → Unsigned text (request_moment wanted first) (job_case j wanted selected first) halt
-      → (target : TargetRead) × TargetSpells text target × GoesAsPlanned (planned target (first ∷ [])) halt held held
+  pub unsigned_goes : (text : List ℕ) (early : Ending) (held : Option (List ℕ)) → text ≡ j.target → Unsigned text (request_moment wanted first) (job_case j wanted selected first) early
+      → (target : TargetRead) × TargetSpells text target × GoesAsPlanned (planned target (first ∷ [])) early held held
   unsigned_goes text (refused told) held is unsigned =
       (unsigned.0, unsigned.1, refused_goes wanted.form j.target (request_moment wanted first) (job_case j wanted selected first) j.events [] unsigned.0 told held unsigned.2)
   unsigned_goes text no_memory held is unsigned = (unread, tt, goes_no_memory (planned unread (first ∷ [])) held)
@@ -196,3 +195,20 @@ module _ (copy request : HttpRequest) (events : List Parts) (method : string_byt
             signs.complete t later (subst (λ (text : List ℕ). TargetSpells text t) (sym target) spells)
             (subst (λ (j : JobParts). IsValid files profile env wanted j t (sent.taken ++ later)) (sym same_parts) valid);
       }
+
+-- memory ran out before a moment was taken
+pub none_streamed : (clock : List Instant → Type 0) (moments : List Instant) (files : List FileText) (profile : List ℕ) (env : List (List ℕ × List ℕ)) (wanted : Wanted) (request : HttpRequest) (events : List Parts)
+    (held : Option (List ℕ)) → clock [] → SignsAndStreams clock moments moments files profile env wanted request events (Err stream.NoMemory) held held
+none_streamed clock moments files profile env wanted request events held none = record {
+  streams = record {
+    target = unread;
+    taken = [];
+    spelled = tt;
+    gained = sym (append-nil moments);
+    given = none;
+    goes = goes_no_memory (stream_plan files profile env wanted (job_with request events) unread []) held;
+    needed = λ front t rest is. absurd (no_moment front t rest is);
+  };
+  headline = tt;
+  complete = λ target later spells valid. inr (inr refl);
+}

@@ -1,7 +1,7 @@
 -- What holds of a watch at its end: where it is done, and where it could be.
 use Rattle.std.proofs.Common.{◌≡◌, ℕ, ◌≤◌, inl, inr, ◌⊎◌, List, [], ◌++◌, length, Option, Some, Result, Ok, Err, refl, sym, ap, subst, ◌∙◌, length-append, arith}
 use Rattle.smithy_core.specs.Message.{Parts}
-use Rattle.smithy_core.specs.Outside.{Gains, IsAtEnd, IsCutOf, IsRestOf}
+use Rattle.smithy_core.specs.Outside.{CountsFault, Gains, IsAtEnd, IsCutOf, IsRestOf}
 use Rattle.smithy_core.proofs.CutLemmas.{cut_at_end, cut_at_start}
 use Rattle.smithy_core.proofs.GainLemmas.{prefix_from_whole}
 use Rattle.eventstream.specs.Bind.{◌>>=◌}
@@ -14,11 +14,11 @@ use Rattle.chain_watch.specs.declared.chain_fault.ChainFault.{ChainFault}
 use Rattle.chain_watch.proofs.AcceptedLemmas.{accepted_chain}
 use Rattle.chain_watch.proofs.WalkLemmas.{starts, walk_joined}
 use Rattle.signed_stream.specs.Plan.{FilesRead, loaded, most_input, unloaded, unreadable}
-use Rattle.signed_stream.specs.Running.{Completes, HasWatchedInput, WentWatching}
+use Rattle.signed_stream.specs.Running.{Completes, HasWatchedInput, Unless, WentWatching, When, takes_files, takes_input, to_watch}
 use Rattle.signed_stream.specs.Settings.{Selected, settings}
 use Rattle.signed_stream.specs.Sources.{or_refused, selection}
-use Rattle.signed_stream.specs.Status.{Ending, RunFault, check_failed, could_not_read_file, done, job_too_large, no_memory, output_fault, read_fault, refused}
-use Rattle.signed_stream.specs.WatchChain.{EndsWalk, FailsFor, GainsFrontOf, HasWatched, IsWholeInput, Watches, WatchesInput, WatchesSelected, WatchesWords, shown_chain, walk_taken, watch_signer}
+use Rattle.signed_stream.specs.Status.{Ending, RunFault, bad_words, check_failed, could_not_read_file, done, job_too_large, no_memory, output_fault, read_fault, refused}
+use Rattle.signed_stream.specs.WatchChain.{EndsWalk, FailsFor, GainsFrontOf, HasWatched, IsWholeInput, UnlessRead, Watches, WatchesInput, WatchesSelected, WatchesWords, shown_chain, walk_taken, watch_signer}
 use Rattle.signed_stream.specs.WatchWords.{WatchWanted}
 use Rattle.signed_stream.specs.declared.status.CheckFault.TheVariants as checks
 use Rattle.signed_stream.proofs.ProgressLemmas.{take_all}
@@ -185,3 +185,44 @@ rest_watched gave env (Ok wanted) all left end before now watches = by_chosen (s
     by_chosen : (chosen : Result Selected Ending) → WatchesSelected wanted chosen all left end before now → IsRestOf all left
     by_chosen (Ok selected) watched = (watched.taken, watched.cut)
     by_chosen (Err early) watched = rw watched.1 ([], cut_at_start all)
+
+-- where it is done, the input was read to its end
+pub watched_to_end : (gave : List Place → FilesRead → Type 0) (env : List (List ℕ × List ℕ)) (read : Result WatchWanted ℕ) (all left : Option (List ℕ)) (answer : Ending) (before now : Option (List ℕ))
+    → WentWatching gave env read all left answer before now → answer ≡ done → IsAtEnd left
+watched_to_end gave env (Err place) all left answer before now went is = absurd (undone (bad_words place) (λ e. cc) (rw is at went.0))
+watched_to_end gave env (Ok wanted) all left answer before now went is = by_files went.input.files (rw is at went.input.watches)
+  where
+    by_chosen : (chosen : Result Selected RunFault) → WatchesSelected wanted (or_refused chosen) all left done before now → IsAtEnd left
+    by_chosen (Ok selected) watched = watched.ends.1.0
+    by_chosen (Err fault) watched = absurd (undone (refused fault) (λ e. cc) watched.0)
+
+    by_files : (files : FilesRead) → WatchesSelected wanted (selection env wanted.profile.service_id files) all left done before now → IsAtEnd left
+    by_files unloaded watched = absurd (undone no_memory (λ e. cc) watched.0)
+    by_files (unreadable path) watched = absurd (undone (could_not_read_file path) (λ e. cc) watched.0)
+    by_files (loaded texts) watched = by_chosen (settings texts (selected_profile env) env wanted.profile.service_id) watched
+
+-- what holds after a watch holds where one is asked for
+pub when_watched : (read : Result WatchWanted ℕ) (P : Type 0) → P → When (takes_input (to_watch read)) P
+when_watched (Ok wanted) P holds = holds
+when_watched (Err place) P holds = tt
+
+-- ## Where a word is bad
+
+-- nothing was read
+pub unread_watched : (gave : List Place → FilesRead → Type 0) (env : List (List ℕ × List ℕ)) (read : Result WatchWanted ℕ) (all left : Option (List ℕ)) (end : Ending) (before now : Option (List ℕ)) (reads_before reads_now : ℕ)
+    → WatchesWords gave env read all left end before now → CountsFault (end ≡ read_fault) reads_before reads_now → Unless (takes_input (to_watch read)) ((left ≡ all) × (reads_now ≡ reads_before))
+unread_watched gave env (Ok wanted) all left end before now reads_before reads_now watches counts = tt
+unread_watched gave env (Err place) all left end before now reads_before reads_now (inl is, same, held) counts = (same, counts.stayed (λ e. let wrong : bad_words place ≡ read_fault = sym is ∙ e in cc))
+unread_watched gave env (Err place) all left end before now reads_before reads_now (inr is, same, held) counts = (same, counts.stayed (λ e. let wrong : no_memory ≡ read_fault = sym is ∙ e in cc))
+
+-- nothing was written
+pub unwritten_watched : (gave : List Place → FilesRead → Type 0) (env : List (List ℕ × List ℕ)) (read : Result WatchWanted ℕ) (all left : Option (List ℕ)) (end : Ending) (before now : Option (List ℕ)) (writes_before writes_now : ℕ)
+    → WatchesWords gave env read all left end before now → CountsFault (end ≡ output_fault) writes_before writes_now → UnlessRead read ((now ≡ before) × (writes_now ≡ writes_before))
+unwritten_watched gave env (Ok wanted) all left end before now writes_before writes_now watches counts = tt
+unwritten_watched gave env (Err place) all left end before now writes_before writes_now (inl is, same, held) counts = (held, counts.stayed (λ e. let wrong : bad_words place ≡ output_fault = sym is ∙ e in cc))
+unwritten_watched gave env (Err place) all left end before now writes_before writes_now (inr is, same, held) counts = (held, counts.stayed (λ e. let wrong : no_memory ≡ output_fault = sym is ∙ e in cc))
+
+-- no file was asked for
+pub unasked_watched : (read : Result WatchWanted ℕ) (P : Type 0) → UnlessRead read P → Unless (takes_files (to_watch read)) P
+unasked_watched (Ok wanted) P holds = tt
+unasked_watched (Err place) P holds = holds

@@ -10,7 +10,7 @@ use Rattle.job_text.specs.Job.{JobParts}
 use Rattle.signed_stream.specs.Plan.{FilesRead, GoesAsPlanned, IsNeeded, Plan, Supplied}
 use Rattle.job_text.specs.ProfileTexts.{ProfileTexts}
 use Rattle.job_text.specs.Record.{RecordParts}
-use Rattle.signed_stream.specs.Running.{Gave, OfClock, RunsAsPlanned, TakesMoments, TellsInput, read_plan}
+use Rattle.signed_stream.specs.Running.{Gave, OfClock, RunsAsPlanned, TakesMoments, ShowsInput, read_plan}
 use Rattle.signed_stream.specs.ShowSettings.{GaveTexts, settings_plan}
 use Rattle.signed_stream.specs.Status.{Ending, bad_job, check_failed, could_not_read_file, done, no_memory, output_fault, refused}
 use Rattle.signed_stream.specs.Stream.{GaveJob, job_plan}
@@ -29,10 +29,10 @@ module _ (gave : List Place → FilesRead → Type 0) (clock : List Instant → 
   abbrev pub GoesForBytes : Command → List ℕ → Ending → Option (List ℕ) → Option (List ℕ) → Type 0
   GoesForBytes command bytes = Goes (Gave gave env command bytes) (TakesMoments clock command) (λ given. read_plan env command bytes given)
 
-  -- as planned for what I/O supplied for an input, where it tells its bytes
+  -- as planned for what I/O supplied for an input, where it shows its bytes
   abbrev pub GoesForInput : Command → Option (List ℕ) → Ending → Option (List ℕ) → Option (List ℕ) → Type 0
   GoesForInput command left answer before now =
-      (given : Supplied) × TakesMoments clock command given.moments × ((bytes : List ℕ) → TellsInput command left bytes → RunsAsPlanned gave env command bytes given answer before now)
+      (given : Supplied) × TakesMoments clock command given.moments × ((bytes : List ℕ) → ShowsInput command left bytes → RunsAsPlanned gave env command bytes given answer before now)
 
   -- as planned for a job
   abbrev pub GoesForJob : Wanted → JobParts → Ending → Option (List ℕ) → Option (List ℕ) → Type 0

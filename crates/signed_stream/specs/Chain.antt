@@ -37,7 +37,7 @@ chain_text form signer events moments signature = frames_text form (chain signer
 
 -- ## Refusals
 
--- the fault that tells of a message at a place why it has no frame; the last reason is that the frame is too long
+-- the fault that says of a message at a place why it has no frame; the last reason is that the frame is too long
 abbrev pub fault_at : ℕ → ErrorKind → RunFault
 fault_at place reasons.InvalidHeaderNameLength = invalid_header_name_length place
 fault_at place reasons.HeaderValueTooLong = header_value_too_long place

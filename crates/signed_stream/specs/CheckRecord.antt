@@ -61,7 +61,7 @@ check_signer wanted selected = record { secret = selected.secret; region = selec
 -- to write the events of the chain, or to fail for the first test that it fails
 abbrev pub checked_plan : Result (List Parts) ChainFault → Plan
 checked_plan (Ok events) = writes (shown_events events) done
-checked_plan (Err told) = stops (check_failed (Chain told))
+checked_plan (Err fault) = stops (check_failed (Chain fault))
 
 -- with the seal; it wasn't looked for where memory ran out before
 abbrev pub sealed_plan : Signer → List ℕ → SealRead → Plan

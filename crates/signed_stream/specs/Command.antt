@@ -11,12 +11,13 @@ use Rattle.aws_auth.specs.declared.payload.PayloadSigningOverride.TheVariants.{U
 use Rattle.signed_stream.specs.ChunkWords.{ChunkGiven, ChunkWanted, chunk_asked, chunk_word, no_chunk_given}
 use Rattle.job_text.specs.Numbers.{natural_below, number}
 use Rattle.job_text.specs.Pieces.{taken_from}
-use Rattle.signed_stream.specs.ProfileOptions.{ProfileWanted, nothing_wanted, profile_option, names_file, stands, with_profile_option}
+use Rattle.signed_stream.specs.OptionWords.{OptionRules, no_flag, options_from, spelled_moment}
+use Rattle.signed_stream.specs.ProfileOptions.{ProfileWanted, nothing_wanted, profile_option, profile_rules, names_file, stands, with_profile_option}
 use Rattle.signed_stream.specs.declared.command.check.CheckOption.{CheckOption}
 use Rattle.signed_stream.specs.declared.command.check.CheckOption.TheVariants.{Name as NameOfCheck, OfProfile as OfProfileOfCheck}
 use Rattle.signed_stream.specs.declared.command.chunk.ChunkValue.{ChunkValue}
-use Rattle.signed_stream.specs.declared.command.options.Valued.{Valued}
-use Rattle.signed_stream.specs.declared.command.options.Valued.TheVariants.{Name, At, Expires, TokenName, Skew, OfProfile}
+use Rattle.signed_stream.specs.declared.command.stream.StreamOption.{StreamOption}
+use Rattle.signed_stream.specs.declared.command.stream.StreamOption.TheVariants.{Name, At, Expires, TokenName, Skew, OfProfile}
 use Rattle.signed_stream.specs.declared.command.profile.ProfileOption.{ProfileOption}
 use Rattle.signed_stream.specs.declared.form.Form.{Form}
 use Rattle.signed_stream.specs.declared.form.Form.TheVariants.{Raw, HexLines}
@@ -59,8 +60,8 @@ pub data Command : Type 0 where
 
 -- ## `stream`
 
--- what the words so far gave, and the option that waits for its value
-pub record OptionsGiven : Type 0 where
+-- what the options so far gave
+pub record StreamGiven : Type 0 where
   pub name : Option (List ℕ)
   pub at : Option Instant
   pub signing : SigningOptions
@@ -68,18 +69,17 @@ pub record OptionsGiven : Type 0 where
   pub skew_millis : Option ℤ
   pub form : Form
   pub profile : ProfileWanted
-  pub awaited : Option Valued
 
 -- no options
-abbrev pub no_options : OptionsGiven
-no_options = record { name = None; at = None; signing = default_options; token_name = None; skew_millis = None; form = HexLines; profile = nothing_wanted; awaited = None }
+abbrev pub no_stream_given : StreamGiven
+no_stream_given = record { name = None; at = None; signing = default_options; token_name = None; skew_millis = None; form = HexLines; profile = nothing_wanted }
 
 -- an option that stands once
-abbrev pub once : Bool → OptionsGiven → Option OptionsGiven
+abbrev pub once : Bool → StreamGiven → Option StreamGiven
 once stood given = if stood then None else Some given
 
 -- an option without a value, or none of them
-abbrev pub take_flag : OptionsGiven → List ℕ → Option OptionsGiven
+abbrev pub take_flag : StreamGiven → List ℕ → Option StreamGiven
 take_flag given word =
     if bytes_eq word (codes "--query") then once (is_query (location_of given.signing.signature_type)) (record given { signing = record given.signing { signature_type = HttpRequestQueryParams } })
     else if bytes_eq word (codes "--omit-token") then once given.signing.omit_session_token (record given { signing = record given.signing { omit_session_token = true } })
@@ -90,109 +90,69 @@ take_flag given word =
     else if bytes_eq word (codes "--raw") then once (is_raw given.form) (record given { form = Raw })
     else None
 
--- an option of profiles, whose files may repeat, or none of them
-abbrev pub take_profile_option : OptionsGiven → Option ProfileOption → List ℕ → Option OptionsGiven
-take_profile_option given None word = take_flag given word
-take_profile_option given (Some option) word = once (stands given.profile option && not (names_file option)) (record given { awaited = Some (OfProfile option) })
+-- the option with a value that a word names
+abbrev pub stream_option : List ℕ → Option StreamOption
+stream_option word =
+    if bytes_eq word (codes "--name") then Some Name
+    else if bytes_eq word (codes "--at") then Some At
+    else if bytes_eq word (codes "--expires") then Some Expires
+    else if bytes_eq word (codes "--token-name") then Some TokenName
+    else if bytes_eq word (codes "--skew") then Some Skew
+    else option_map OfProfile (profile_option word)
 
--- a word, where it is an option
-abbrev pub take_option : OptionsGiven → List ℕ → Option OptionsGiven
-take_option given word =
-    if bytes_eq word (codes "--name") then once (is_some given.name) (record given { awaited = Some Name })
-    else if bytes_eq word (codes "--at") then once (is_some given.at) (record given { awaited = Some At })
-    else if bytes_eq word (codes "--expires") then once (is_some given.signing.expires_in) (record given { awaited = Some Expires })
-    else if bytes_eq word (codes "--token-name") then once (is_some given.token_name) (record given { awaited = Some TokenName })
-    else if bytes_eq word (codes "--skew") then once (is_some given.skew_millis) (record given { awaited = Some Skew })
-    else take_profile_option given (profile_option word) word
+-- the option stood, and may stand once; files may repeat
+abbrev pub stands_in_stream : StreamGiven → StreamOption → Bool
+stands_in_stream given Name = is_some given.name
+stands_in_stream given At = is_some given.at
+stands_in_stream given Expires = is_some given.signing.expires_in
+stands_in_stream given TokenName = is_some given.token_name
+stands_in_stream given Skew = is_some given.skew_millis
+stands_in_stream given (OfProfile option) = stands given.profile option && not (names_file option)
 
--- the value of `--at`: the seconds of the moment, where the word is a number of 64 bits
-abbrev pub take_moment : OptionsGiven → Option ℤ → Option OptionsGiven
-take_moment given None = None
-take_moment given (Some secs) = Some (record given { at = Some (record { secs = secs; nanos = 0 }); awaited = None })
+-- what was given with the value of an option more: `--at` has the seconds of a moment, `--expires` seconds, a natural number of 64 bits, and `--skew`
+-- milliseconds, a number of 64 bits
+abbrev pub with_stream_option : StreamGiven → StreamOption → List ℕ → Option StreamGiven
+with_stream_option given Name value = Some (record given { name = Some value })
+with_stream_option given At value = option_map (λ at. record given { at = Some at }) (spelled_moment value)
+with_stream_option given Expires value =
+    option_map (λ seconds. record given { signing = record given.signing { expires_in = Some seconds } }) (natural_below 18446744073709551616 value)
+with_stream_option given TokenName value = Some (record given { token_name = Some value })
+with_stream_option given Skew value = option_map (λ millis. record given { skew_millis = Some millis }) (number w64 value)
+with_stream_option given (OfProfile option) value = Some (record given { profile = with_profile_option given.profile option value })
 
--- the value of `--expires`: seconds, where the word is a natural number of 64 bits
-abbrev pub take_expiry : OptionsGiven → Option ℕ → Option OptionsGiven
-take_expiry given None = None
-take_expiry given (Some seconds) = Some (record given { signing = record given.signing { expires_in = Some seconds }; awaited = None })
+-- the options of `stream`
+abbrev pub stream_rules : OptionRules StreamGiven StreamOption
+stream_rules = record { named = stream_option; stood = stands_in_stream; valued = with_stream_option; flagged = take_flag }
 
--- the value of `--skew`: milliseconds, where the word is a number of 64 bits
-abbrev pub take_skew : OptionsGiven → Option ℤ → Option OptionsGiven
-take_skew given None = None
-take_skew given (Some millis) = Some (record given { skew_millis = Some millis; awaited = None })
-
--- a word: the value of the option that waits for one, or else an option; or it is bad
-abbrev pub take_word : OptionsGiven → Option Valued → List ℕ → Option OptionsGiven
-take_word given None word = take_option given word
-take_word given (Some Name) word = Some (record given { name = Some word; awaited = None })
-take_word given (Some At) word = take_moment given (number w64 word)
-take_word given (Some Expires) word = take_expiry given (natural_below 18446744073709551616 word)
-take_word given (Some TokenName) word = Some (record given { token_name = Some word; awaited = None })
-take_word given (Some Skew) word = take_skew given (number w64 word)
-take_word given (Some (OfProfile option)) word = Some (record given { profile = with_profile_option given.profile option word; awaited = None })
-
--- a word of `stream`
-abbrev pub stream_word : OptionsGiven → List ℕ → Option OptionsGiven
-stream_word given word = take_word given given.awaited word
-
--- the words are over: the command, or the place after the last word
-abbrev pub command_of : ℕ → OptionsGiven → Option (List ℕ) → Option Valued → Command
-command_of place given name (Some option) = bad_word place
-command_of place given None None = bad_word place
-command_of place given (Some name) None =
+-- the words are over: the command, or the place after the last word, where the name is missing
+abbrev pub stream_named : ℕ → StreamGiven → Option (List ℕ) → Command
+stream_named place given None = bad_word place
+stream_named place given (Some name) =
     stream (record { name = name; at = given.at; signing = given.signing; token_name = given.token_name; skew_millis = given.skew_millis; form = given.form; profile = given.profile })
 
 -- the command of all words
-abbrev pub stream_command : ℕ → OptionsGiven → Command
-stream_command place given = command_of place given given.name given.awaited
+abbrev pub stream_words : ℕ → StreamGiven → Command
+stream_words place given = stream_named place given given.name
 
 -- ## `settings`
 
--- what the words so far gave, and the option that waits for its value
-pub record ProfileGiven : Type 0 where
-  pub profile : ProfileWanted
-  pub awaited : Option ProfileOption
-
--- no options
-abbrev pub no_profile_given : ProfileGiven
-no_profile_given = record { profile = nothing_wanted; awaited = None }
-
--- an option, which stands once
-abbrev pub await_value : ProfileGiven → Option ProfileOption → Option ProfileGiven
-await_value given None = None
-await_value given (Some option) = if stands given.profile option then None else Some (record given { awaited = Some option })
-
--- a word: the value of the option that waits for one, or else an option; or it is bad
-abbrev pub take_profile_word : ProfileGiven → Option ProfileOption → List ℕ → Option ProfileGiven
-take_profile_word given None word = await_value given (profile_option word)
-take_profile_word given (Some option) word = Some (record { profile = with_profile_option given.profile option word; awaited = None })
-
--- a word of `settings`
-abbrev pub settings_word : ProfileGiven → List ℕ → Option ProfileGiven
-settings_word given word = take_profile_word given given.awaited word
-
--- the words are over: the command, or the place after the last word
-abbrev pub settings_command : ℕ → ProfileWanted → Option ProfileOption → Command
-settings_command place profile None = show_settings profile
-settings_command place profile (Some option) = bad_word place
-
 -- the command of all words
-abbrev pub settings_words : ℕ → ProfileGiven → Command
-settings_words place given = settings_command place given.profile given.awaited
+abbrev pub settings_words : ℕ → ProfileWanted → Command
+settings_words place profile = show_settings profile
 
 -- ## `check`
 
--- what the words so far gave, and the option that waits for its value
+-- what the options so far gave
 pub record CheckGiven : Type 0 where
   pub name : Option (List ℕ)
   pub profile : ProfileWanted
-  pub awaited : Option CheckOption
 
 -- no options
 abbrev pub no_check_given : CheckGiven
-no_check_given = record { name = None; profile = nothing_wanted; awaited = None }
+no_check_given = record { name = None; profile = nothing_wanted }
 
 -- the option that a word names
-unfoldable pub check_option : List ℕ → Option CheckOption
+abbrev pub check_option : List ℕ → Option CheckOption
 check_option word = if bytes_eq word (codes "--name") then Some NameOfCheck else option_map OfProfileOfCheck (profile_option word)
 
 -- the option stood
@@ -202,32 +162,21 @@ stands_in_check given (OfProfileOfCheck option) = stands given.profile option
 
 -- what was given with an option of this value more
 abbrev pub with_check_option : CheckGiven → CheckOption → List ℕ → CheckGiven
-with_check_option given NameOfCheck value = record given { name = Some value; awaited = None }
-with_check_option given (OfProfileOfCheck option) value = record given { profile = with_profile_option given.profile option value; awaited = None }
+with_check_option given NameOfCheck value = record given { name = Some value }
+with_check_option given (OfProfileOfCheck option) value = record given { profile = with_profile_option given.profile option value }
 
--- an option, which stands once
-abbrev pub await_check : CheckGiven → Option CheckOption → Option CheckGiven
-await_check given None = None
-await_check given (Some option) = if stands_in_check given option then None else Some (record given { awaited = Some option })
+-- the options of `check`, each of which stands once
+abbrev pub check_rules : OptionRules CheckGiven CheckOption
+check_rules = record { named = check_option; stood = stands_in_check; valued = λ given option value. Some (with_check_option given option value); flagged = no_flag }
 
--- a word: the value of the option that waits for one, or else an option; or it is bad
-abbrev pub take_check_word : CheckGiven → Option CheckOption → List ℕ → Option CheckGiven
-take_check_word given None word = await_check given (check_option word)
-take_check_word given (Some option) word = Some (with_check_option given option word)
-
--- a word of `check`
-abbrev pub check_word : CheckGiven → List ℕ → Option CheckGiven
-check_word given word = take_check_word given given.awaited word
-
--- the words are over: the command, or the place after the last word
-abbrev pub check_command : ℕ → ProfileWanted → Option (List ℕ) → Option CheckOption → Command
-check_command place profile (Some name) None = check_record (record { name = name; profile = profile })
-check_command place profile None None = bad_word place
-check_command place profile name (Some option) = bad_word place
+-- the words are over: the command, or the place after the last word, where the name is missing
+abbrev pub check_command : ℕ → ProfileWanted → Option (List ℕ) → Command
+check_command place profile (Some name) = check_record (record { name = name; profile = profile })
+check_command place profile None = bad_word place
 
 -- the command of all words
 abbrev pub check_words : ℕ → CheckGiven → Command
-check_words place given = check_command place given.profile given.name given.awaited
+check_words place given = check_command place given.profile given.name
 
 -- ## `gen`
 
@@ -274,9 +223,9 @@ command_from whole (Err place) = bad_word place
 unfoldable pub command : List (List ℕ) → Command
 command [] = bad_word 1
 command (word ∷ words) =
-    if bytes_eq word (codes "stream") then command_from stream_command (taken_from stream_word 2 no_options words)
-    else if bytes_eq word (codes "settings") then command_from settings_words (taken_from settings_word 2 no_profile_given words)
-    else if bytes_eq word (codes "check") then command_from check_words (taken_from check_word 2 no_check_given words)
+    if bytes_eq word (codes "stream") then command_from stream_words (options_from stream_rules 2 no_stream_given words)
+    else if bytes_eq word (codes "settings") then command_from settings_words (options_from profile_rules 2 nothing_wanted words)
+    else if bytes_eq word (codes "check") then command_from check_words (options_from check_rules 2 no_check_given words)
     else if bytes_eq word (codes "gen") then generator_from words
     else if bytes_eq word (codes "chunk") then command_from chunk_words (taken_from chunk_word 2 no_chunk_given words)
     else bad_word 1

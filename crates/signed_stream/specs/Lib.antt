@@ -9,8 +9,8 @@ pub mod Counts
 pub mod EventLines
 pub mod Generate
 pub mod Generator
-pub mod Halt
 pub mod Laws
+pub mod OptionWords
 pub mod Options
 pub mod Plan
 pub mod ProfileOptions

@@ -2,7 +2,7 @@
 use Rattle.std.specs.Prelude.{◌≡◌, option_map, Result, Ok, Err, string_bytes}
 use Rattle.std.specs.Option.{option_copied}
 use Rattle.signed_stream.specs.ChunkWords.{chunk_wanted}
-use Rattle.signed_stream.specs.Command.{CheckGiven, CheckWanted, Command, bad_word, check_record, generate, write_chunks, stream, show_settings, OptionsGiven, ProfileGiven, Wanted}
+use Rattle.signed_stream.specs.Command.{CheckGiven, CheckWanted, Command, bad_word, check_record, generate, write_chunks, stream, show_settings, StreamGiven, Wanted}
 use Rattle.signed_stream.specs.ProfileOptions.{profile_wanted}
 use Rattle.signed_stream.specs.declared.command.Command.{Command as Commanded}
 use Rattle.signed_stream.specs.declared.command.Command.TheVariants.{Generate, OfInput}
@@ -12,11 +12,10 @@ use Rattle.signed_stream.specs.declared.command.chunk.ChunkWords.{ChunkWords}
 use Rattle.signed_stream.specs.declared.command.generator.GeneratorWords.{GeneratorWords}
 use Rattle.job_text.specs.declared.words.WordsFault.{WordsFault}
 use Rattle.job_text.specs.declared.words.WordsFault.TheVariants.{BadWord, NoMemory}
-use Rattle.signed_stream.specs.declared.command.options.StreamWords.{StreamWords}
-use Rattle.signed_stream.specs.declared.command.options.GivenOptions.{GivenOptions}
+use Rattle.signed_stream.specs.declared.command.stream.StreamWords.{StreamWords}
+use Rattle.signed_stream.specs.declared.command.stream.GivenStream.{GivenStream}
 use Rattle.signed_stream.specs.declared.command.check.CheckWords.{CheckWords}
 use Rattle.signed_stream.specs.declared.command.check.GivenCheck.{GivenCheck}
-use Rattle.signed_stream.specs.declared.command.profile.GivenProfile.{GivenProfile}
 use Rattle.signed_stream.specs.declared.command.profile.ProfileOptions.{ProfileOptions}
 use Rattle.signed_stream.specs.declared.streaming.StreamOptions.{StreamOptions}
 
@@ -86,9 +85,9 @@ abbrev pub ReadsProfile : Command → Result ProfileOptions WordsFault → Type 
 ReadsProfile command (Ok profile) = command ≡ show_settings (profile_wanted profile)
 ReadsProfile command (Err fault) = GivesWordsFault command fault
 
--- what the words so far gave
-abbrev pub given_options : GivenOptions → OptionsGiven
-given_options given = record {
+-- what the options of `stream` so far gave
+abbrev pub stream_given : GivenStream → StreamGiven
+stream_given given = record {
   name = option_copied given.name;
   at = given.at;
   signing = given.signing;
@@ -96,16 +95,11 @@ given_options given = record {
   skew_millis = given.skew_millis;
   form = given.form;
   profile = profile_wanted given.profile;
-  awaited = given.awaited;
 }
 
--- what the words of `settings` so far gave
-abbrev pub profile_given : GivenProfile → ProfileGiven
-profile_given given = record { profile = profile_wanted given.profile; awaited = given.awaited }
-
--- what the words of `check` so far gave
+-- what the options of `check` so far gave
 abbrev pub check_given : GivenCheck → CheckGiven
-check_given given = record { name = option_copied given.name; profile = profile_wanted given.profile; awaited = given.awaited }
+check_given given = record { name = option_copied given.name; profile = profile_wanted given.profile }
 
 -- the words of `chunk`: what they ask for, or the place of the first bad one; or memory ran out
 abbrev pub ReadsChunk : Command → Result ChunkWords WordsFault → Type 0

@@ -5,6 +5,7 @@ use Rattle.std.specs.Option.{option_copied}
 use Rattle.env_config.specs.Files.{Place, Usual, At, Given}
 use Rattle.env_config.specs.declared.source.EnvConfigFileKind.{EnvConfigFileKind}
 use Rattle.env_config.specs.declared.source.EnvConfigFileKind.TheVariants.{Config, Credentials}
+use Rattle.signed_stream.specs.OptionWords.{OptionRules, no_flag}
 use Rattle.signed_stream.specs.declared.command.profile.NamedFile.{NamedFile}
 use Rattle.signed_stream.specs.declared.command.profile.ProfileOption.{ProfileOption}
 use Rattle.signed_stream.specs.declared.command.profile.ProfileOption.TheVariants.{ServiceId, NamesFile}
@@ -53,6 +54,10 @@ names_file (NamesFile kind) = true
 abbrev pub with_profile_option : ProfileWanted → ProfileOption → List ℕ → ProfileWanted
 with_profile_option wanted ServiceId value = record wanted { service_id = Some value }
 with_profile_option wanted (NamesFile kind) value = record wanted { files = wanted.files ++ At kind value ∷ [] }
+
+-- the options of profiles, each of which stands once
+abbrev pub profile_rules : OptionRules ProfileWanted ProfileOption
+profile_rules = record { named = profile_option; stood = stands; valued = λ wanted option value. Some (with_profile_option wanted option value); flagged = no_flag }
 
 -- the place of a named file
 abbrev pub place_of : NamedFile → Place

@@ -12,7 +12,6 @@ use Rattle.signed_stream.specs.Command.{Command, Wanted, bad_word, check_record,
 use Rattle.signed_stream.specs.Generate.{generate_plan, shown_stream}
 use Rattle.signed_stream.specs.Generator.{drawn_events}
 use Rattle.job_text.specs.Job.{job}
-use Rattle.job_text.specs.Pieces.{taken_from}
 use Rattle.signed_stream.specs.Plan.{FilesRead, GoesAsPlanned, IsNeeded, Plan, Supplied, most_input, stops, unless_large, unreadable}
 use Rattle.job_text.specs.ProfileTexts.{profile_texts}
 use Rattle.job_text.specs.Record.{spelled_record}
@@ -22,11 +21,11 @@ use Rattle.signed_stream.specs.Shown.{shown_settings}
 use Rattle.signed_stream.specs.Status.{Ending, RunFault, bad_job, bad_words, could_not_read_file, done, header_value_too_long, headers_too_long, invalid_header_name_length, job_too_large, message_too_long, moment_out_of_range, no_memory, output_fault, payload_too_long, read_fault, refused, timestamp_value_too_large}
 use Rattle.signed_stream.specs.Stream.{GaveReading, IsStreamable, job_plan, streamed}
 use Rattle.signed_stream.specs.WatchChain.{HasWatched, IsWholeInput, NamesUnread, UnlessRead, WatchesInput}
-use Rattle.signed_stream.specs.WatchWords.{WatchWanted, no_watch_given, watch_from, watch_word}
+use Rattle.signed_stream.specs.WatchWords.{WatchWanted, read_after_watch}
 
 -- ## The plan
 
--- what I/O supplied for an input's bytes; `gave` tells what the disk gave
+-- what I/O supplied for an input's bytes; `gave` says what the disk gave
 abbrev pub Gave : (List Place → FilesRead → Type 0) → List (List ℕ × List ℕ) → Command → List ℕ → Supplied → Type 0
 Gave gave env (bad_word place) bytes given = Unit {0}
 Gave gave env (stream wanted) bytes given = GaveReading gave wanted (job bytes) given
@@ -62,9 +61,9 @@ abbrev pub When : Bool → Type 0 → Type 0
 When true P = P
 When false P = Unit {0}
 
--- the input tells these bytes; where the command reads none, any will do
-abbrev pub TellsInput : Command → Option (List ℕ) → List ℕ → Type 0
-TellsInput command left bytes = When (reads_input command) (left ≡ Some bytes)
+-- the input shows these bytes; where the command reads none, any will do
+abbrev pub ShowsInput : Command → Option (List ℕ) → List ℕ → Type 0
+ShowsInput command left bytes = When (reads_input command) (left ≡ Some bytes)
 
 -- what follows from the words, the variables, the input's bytes and what I/O supplied; words that are no command end the run before the input is asked
 unfoldable pub command_plan : List (List ℕ × List ℕ) → Command → List ℕ → Supplied → Plan
@@ -72,7 +71,7 @@ command_plan env (bad_word place) bytes given = stops (bad_words place)
 command_plan env (generate seed count) bytes given = generate_plan seed count
 command_plan env command bytes given = unless_large bytes (read_plan env command bytes given)
 
--- the moments of a stream: those that the clock gave, or one and the same, for which the clock isn't asked; `clock` tells what the clock gave
+-- the moments of a stream: those that the clock gave, or one and the same, for which the clock isn't asked; `clock` says what the clock gave
 abbrev pub OfClock : (List Instant → Type 0) → Option Instant → List Instant → Type 0
 OfClock clock None moments = clock moments
 OfClock clock (Some at) moments = (moments ≡ replicate (length moments) at) × clock []
@@ -152,7 +151,7 @@ abbrev pub Unless : Bool → Type 0 → Type 0
 Unless true P = Unit {0}
 Unless false P = P
 
--- the answers that leave the output as it was, whether or not the input tells its bytes: all but where it is done, was cut short, or is refused late
+-- the answers that leave the output as it was, whether or not the input shows its bytes: all but where it is done, was cut short, or is refused late
 abbrev pub KeepsOutput : (RunFault → Bool) → Ending → Option (List ℕ) → Option (List ℕ) → Type 0
 KeepsOutput late done before now = Unit {0}
 KeepsOutput late (refused fault) before now = Unless (late fault) (now ≡ before)
@@ -202,27 +201,27 @@ CanBeDone gave env command bytes given = ⊥
 abbrev pub Completes : Ending → Type 0
 Completes answer = (answer ≡ done) ⊎ (answer ≡ read_fault) ⊎ (answer ≡ output_fault) ⊎ (answer ≡ no_memory)
 
--- a sink before a run and after it: what it holds, where it tells, and its count of faults
+-- a sink before a run and after it: what it holds, where it shows that, and its count of faults
 pub record SinkChange : Type 0 where
   pub held_before : Option (List ℕ)
   pub held_now : Option (List ℕ)
   pub faults_before : ℕ
   pub faults_now : ℕ
 
--- How a run went with what I/O supplied: `gave` tells what the disk gave and `clock` what the clock gave, and the input had this left, whose count of faults
+-- How a run went with what I/O supplied: `gave` says what the disk gave and `clock` what the clock gave, and the input had this left, whose count of faults
 -- was `reads_before` and is `reads_now`.
 pub record Ran (gave : List Place → FilesRead → Type 0) (clock : List Instant → Type 0) (env : List (List ℕ × List ℕ)) (command : Command) (left : Option (List ℕ)) (given : Supplied) (answer : Ending) (reads_before reads_now : ℕ) (out err : SinkChange) : Type 0 where
   -- where it is done, the headline
-  pub headline : (bytes : List ℕ) → TellsInput command left bytes → answer ≡ done → HasDone gave env command bytes given out.held_before out.held_now
+  pub headline : (bytes : List ℕ) → ShowsInput command left bytes → answer ≡ done → HasDone gave env command bytes given out.held_before out.held_now
   -- what can be done with these files, at the moments that were taken and any later ones, is done
-  pub complete : (bytes : List ℕ) → TellsInput command left bytes → (other : Supplied) → other.files ≡ given.files → (later : List Instant) → other.moments ≡ given.moments ++ later
+  pub complete : (bytes : List ℕ) → ShowsInput command left bytes → (other : Supplied) → other.files ≡ given.files → (later : List Instant) → other.moments ≡ given.moments ++ later
       → CanBeDone gave env command bytes other → Completes answer
   -- it ended as the words ask
   pub ended : EndsAsAsked command answer
   -- its moments are those of the clock, or the one that the words name
   pub moments : TakesMoments clock command given.moments
-  -- where the input tells its bytes, it ended and the output gained as planned
-  pub planned : (bytes : List ℕ) → TellsInput command left bytes → RunsAsPlanned gave env command bytes given answer out.held_before out.held_now
+  -- where the input shows its bytes, it ended and the output gained as planned
+  pub planned : (bytes : List ℕ) → ShowsInput command left bytes → RunsAsPlanned gave env command bytes given answer out.held_before out.held_now
   -- what the output keeps also where it doesn't
   pub kept : KeepsOutput (comes_late command) answer out.held_before out.held_now
   -- a file that couldn't be read is one that the words name
@@ -241,10 +240,6 @@ pub data Task : Type 0 where
   to_watch : Result WatchWanted ℕ → Task
   -- a command that goes by a plan for the whole of its input, or none
   to_run : Command → Task
-
--- what the words behind `watch` ask for, or the place of the first bad one
-abbrev pub read_after_watch : List (List ℕ) → Result WatchWanted ℕ
-read_after_watch words = watch_from (taken_from watch_word 2 no_watch_given words)
 
 -- what the words ask for: `watch` reads while it writes, and every other command goes by its plan
 unfoldable pub task : List (List ℕ) → Task

@@ -1,7 +1,8 @@
--- What sending a chain promises to the functions that send it; a reader of `run` needs none of it.
+-- What sending to a sink promises, a text or a chain, to the functions that send; a reader of `run` needs none of it.
 use Rattle.std.specs.Prelude.{◌≡◌, ℕ, ◌+◌, ◌≤◌, ◌⊎◌, List, [], ◌∷◌, ◌++◌, length, Result, Ok, Err, Option, Some, None}
 use Rattle.smithy_core.specs.Message.{Parts}
 use Rattle.smithy_core.specs.Moment.{Instant}
+use Rattle.smithy_core.specs.Outside.{Gains, GainsPrefix}
 use Rattle.eventstream.specs.Error.{error_kind}
 use Rattle.eventstream.specs.Frame.{frame, unframed}
 use Rattle.eventstream.specs.Key.{Signer}
@@ -14,10 +15,28 @@ use Rattle.eventstream.specs.declared.sign_error.SignMessageError.{SignMessageEr
 use Rattle.eventstream.specs.declared.sign_error.SignMessageError.TheVariants as signing
 use Rattle.event_io.specs.Chain.{next_bytes}
 use Rattle.signed_stream.specs.Chain.{fault_at, first_refusal, outside_years, refusal_fault, streamed_text, unlinked}
-use Rattle.signed_stream.specs.Halt.{Sends}
-use Rattle.signed_stream.specs.Status.{Ending, RunFault, moment_out_of_range, no_memory, refused, stream_ending}
+use Rattle.signed_stream.specs.Status.{Ending, RunFault, moment_out_of_range, no_memory, output_fault, refused, stream_ending}
 use Rattle.signed_stream.specs.declared.form.Form.{Form}
 use Rattle.signed_stream.specs.declared.status.StreamFault.{StreamFault}
+
+-- ## A text
+
+-- how sending ends early: where the text is written it is refused for the fault; where the sink fails or memory runs out a prefix of the text is
+abbrev pub EndsEarly : Option RunFault → List ℕ → Option (List ℕ) → Option (List ℕ) → Ending → Type 0
+EndsEarly fault text before now (refused reason) = (fault ≡ Some reason) × Gains before now text
+EndsEarly fault text before now output_fault = GainsPrefix before now text
+EndsEarly fault text before now no_memory = GainsPrefix before now text
+EndsEarly fault text before now end = ⊥
+
+-- the text is written, and then the answer is the fault, where there is one; the sink may fail and memory may run out before
+abbrev pub Sends : {T : Type 0} → Option RunFault → List ℕ → Option (List ℕ) → Option (List ℕ) → Result T StreamFault → Type 0
+Sends fault text before now (Ok _) = (fault ≡ None) × Gains before now text
+Sends fault text before now (Err reason) = EndsEarly fault text before now (stream_ending reason)
+
+-- the line of a message, and nothing where there is a fault
+abbrev pub unless_refused : Option RunFault → List ℕ → List ℕ
+unless_refused None line = line
+unless_refused (Some fault) line = []
 
 -- ## One frame
 
@@ -28,7 +47,7 @@ next_refused who place signature (event ∷ events) t = unlinked who place signa
 
 -- how a run ends for that reason, and that it is one
 abbrev pub IsRefusedBy : Signer → ℕ → List ℕ → List Parts → Instant → Ending → Type 0
-IsRefusedBy who place signature events t halt = (fault : RunFault) × (halt ≡ refused fault) × (next_refused who place signature events t ≡ Some fault)
+IsRefusedBy who place signature events t end = (fault : RunFault) × (end ≡ refused fault) × (next_refused who place signature events t ≡ Some fault)
 
 -- why a message isn't written: it has no frame, or memory ran out
 abbrev pub IsWriteFault : ErrorKind → Type 0

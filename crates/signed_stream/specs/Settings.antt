@@ -62,7 +62,7 @@ selected_in settings = record {
   region = settings.region;
 }
 
--- the settings are the ones that are read, or the fault tells why there are none; or memory ran out
+-- the settings are the ones that are read, or the fault says why there are none; or memory ran out
 abbrev pub GivesSettings : Result Selected RunFault → Result Settings SettingsFault → Type 0
 GivesSettings read (Ok settings) = read ≡ Ok (selected_in settings)
 GivesSettings read (Err (ParseError error)) = read ≡ Err (parse_error (faulty_line_of error))

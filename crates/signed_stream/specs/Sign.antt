@@ -28,7 +28,7 @@ use Rattle.signed_stream.specs.declared.status.StreamFault.{StreamFault}
 
 -- ## Why a request is refused
 
--- the fault that tells why a request isn't signed; the last reason is its target
+-- the fault that says why a request isn't signed; the last reason is its target
 abbrev pub run_fault_for : SigningError → RunFault
 run_fault_for (errors.InvalidHeaderName place) = invalid_header_name place
 run_fault_for (errors.InvalidHeaderValue place) = invalid_header_value place
@@ -86,7 +86,7 @@ pub record SealsFor (c : Case) (signer : SignerState (Unit {0})) : Type 0 where
 
 -- why a request isn't signed: the first test that fails, or memory ran out
 abbrev pub Unsigned : List ℕ → Instant → (Target → Case) → Ending → Type 0
-Unsigned text at case (refused told) = (target : TargetRead) × TargetSpells text target × (request_fault at case target ≡ Some told)
+Unsigned text at case (refused fault) = (target : TargetRead) × TargetSpells text target × (request_fault at case target ≡ Some fault)
 Unsigned text at case no_memory = Unit {0}
 Unsigned text at case end = ⊥
 

@@ -35,7 +35,7 @@ source_places named texts = or_usual (named ++ given_places texts)
 -- ## What the disk gave
 
 -- What a disk gave for these places while it went from the one state to the other: the texts of all, or the path of the first file that couldn't be read.
--- `answers` is the disk's own relation of one read, `faults` its count of faults, and `files` what it tells of its files.
+-- `answers` is the disk's own relation of one read, `faults` its count of faults, and `files` what it shows of its files.
 abbrev pub DiskGives : {D : Type 0} → (D → List ℕ → Result (Vec ℕ) DiskError → D → Type 0) → (D → ℕ) → Option (List (List ℕ × List ℕ)) → List (List ℕ × List ℕ) → D → D → List Place → FilesRead → Type 0
 DiskGives answers faults files env before now places unloaded = Unit {0}
 DiskGives answers faults files env before now places (loaded texts) = Loaded answers faults files env places before now texts

@@ -1,5 +1,5 @@
 -- How a run ends, as contracts see it: texts are lists of bytes.
-use Rattle.std.specs.Prelude.{ℕ, List, string_bytes}
+use Rattle.std.specs.Prelude.{ℕ, List, Result, Ok, Err, string_bytes}
 use Rattle.smithy_core.specs.Moment.{Instant}
 use Rattle.sigv4.specs.declared.error.ValuePlace.{ValuePlace}
 use Rattle.env_config.specs.ParseFault.{faulty_line_of}
@@ -102,6 +102,11 @@ abbrev pub stream_ending : StreamFault → Ending
 stream_ending faults.SinkFault = output_fault
 stream_ending faults.NoMemory = no_memory
 stream_ending fault = refused (run_fault fault)
+
+-- how a run ends with this answer
+abbrev pub ended : {T : Type 0} → Result T StreamFault → Ending
+ended (Ok _) = done
+ended (Err fault) = stream_ending fault
 
 -- how a run ends whose record isn't a chain
 abbrev pub chain_ending : ChainFault → Ending

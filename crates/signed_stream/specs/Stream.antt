@@ -29,7 +29,7 @@ use Rattle.signed_stream.specs.Written.{case_refusal, written_stream, written_en
 abbrev pub job_texts : JobParts → ProfileTexts
 job_texts j = record { config = j.config; credentials = j.credentials }
 
--- for a job: what the files give, and what the job's target spells; `gave` tells what the disk gave
+-- for a job: what the files give, and what the job's target spells; `gave` says what the disk gave
 pub record GaveJob (gave : List Place → FilesRead → Type 0) (wanted : Wanted) (j : JobParts) (given : Supplied) : Type 0 where
   pub files : gave (source_places wanted.profile.files (job_texts j)) given.files
   pub target : TargetSpells j.target given.target

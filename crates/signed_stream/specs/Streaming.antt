@@ -9,16 +9,16 @@ use Rattle.env_config.specs.Sections.{FileText}
 use Rattle.aws_auth.specs.Options.{IsSameOptions}
 use Rattle.signed_stream.specs.Case.{job_case}
 use Rattle.signed_stream.specs.Command.{Wanted}
-use Rattle.signed_stream.specs.Halt.{ended}
 use Rattle.job_text.specs.Job.{JobParts}
 use Rattle.signed_stream.specs.Plan.{GoesAsPlanned, IsNeeded, Plan, TargetRead, TargetSpells, accepted}
 use Rattle.signed_stream.specs.Settings.{Selected, settings}
 use Rattle.signed_stream.specs.Sign.{IsSignedFor}
 use Rattle.signed_stream.specs.Sources.{or_refused, when_selected}
-use Rattle.signed_stream.specs.Status.{Ending, done, no_memory, output_fault}
+use Rattle.signed_stream.specs.Status.{Ending, done, no_memory, output_fault, ended}
 use Rattle.signed_stream.specs.Stream.{IsValid, selected_plan, valid_case, written_valid}
 use Rattle.signed_stream.specs.declared.form.Form.{Form}
 use Rattle.signed_stream.specs.declared.streaming.StreamOptions.{StreamOptions}
+use Rattle.signed_stream.specs.declared.streaming.StreamedRequest.{StreamedRequest}
 use Rattle.signed_stream.specs.declared.status.StreamFault.{StreamFault}
 
 -- what the options ask for, to be written in a form
@@ -53,12 +53,19 @@ job_with request events = record {
   events = events;
 }
 
+-- what is asked of a request that is streamed, and its job
+abbrev pub wanted_for : StreamedRequest → Wanted
+wanted_for stream = stream_wanted stream.options.now stream.form
+
+abbrev pub job_for : StreamedRequest → JobParts
+job_for stream = job_with stream.request stream.events.items
+
 -- what follows from the files, the variables, what the target spells and the moments that were taken
 abbrev pub stream_plan : List FileText → List ℕ → List (List ℕ × List ℕ) → Wanted → JobParts → TargetRead → List Instant → Plan
 stream_plan files profile env wanted j target moments =
     when_selected (selected_plan j wanted target moments) (or_refused (settings files profile env wanted.profile.service_id))
 
--- An answer as planned for what the target spells and the moments that were taken. These were gained, the clock gave them, which `clock` tells, and each was
+-- An answer as planned for what the target spells and the moments that were taken. These were gained, the clock gave them, which `clock` says, and each was
 -- taken only where those before it didn't decide.
 pub record Streams (clock : List Instant → Type 0) (old new : List Instant) (text : List ℕ) (plan : TargetRead → List Instant → Plan) (answer : Ending) (before now : Option (List ℕ)) : Type 0 where
   pub target : TargetRead

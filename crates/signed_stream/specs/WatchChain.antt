@@ -39,7 +39,7 @@ walk_taken signer seed taken = walk signer (seed_point seed) (take most_input ta
 
 -- no fault was met
 abbrev pub IsSound : Point → Type 0
-IsSound (failed told) = ⊥
+IsSound (failed fault) = ⊥
 IsSound at = Unit {0}
 
 -- the bytes taken are the whole input, which isn't too large
@@ -53,21 +53,21 @@ GainsFrontOf walked taken left before now =
 
 -- the walk met this fault, or the input ended where a chain can't
 abbrev pub FailsFor : Walk → List ℕ → Option (List ℕ) → ChainFault → Type 0
-FailsFor walked taken left told = (walked.at ≡ failed told) ⊎ ((ending walked.at ≡ Err told) × AreAll taken left)
+FailsFor walked taken left fault = (walked.at ≡ failed fault) ⊎ ((ending walked.at ≡ Err fault) × AreAll taken left)
 
 -- How a watch ends whose bytes taken are walked so, and what the output gained: all that is shown of a whole chain, and else the lines of the events that
 -- passed, once the walk meets a fault, or more bytes came than an input may have, or the input fails; a front of these where the output fails or memory
 -- runs out.
 abbrev pub EndsWalk : Walk → List ℕ → Option (List ℕ) → Ending → Option (List ℕ) → Option (List ℕ) → Type 0
 EndsWalk walked taken left done before now = (ending walked.at ≡ Ok tt) × AreAll taken left × Gains before now (shown_chain walked.events)
-EndsWalk walked taken left (check_failed (Chain told)) before now = FailsFor walked taken left told × Gains before now (event_lines walked.events)
+EndsWalk walked taken left (check_failed (Chain fault)) before now = FailsFor walked taken left fault × Gains before now (event_lines walked.events)
 EndsWalk walked taken left job_too_large before now = IsSound walked.at × (most_input < length taken) × Gains before now (event_lines walked.events)
 EndsWalk walked taken left read_fault before now = IsSound walked.at × Gains before now (event_lines walked.events)
 EndsWalk walked taken left output_fault before now = GainsFrontOf walked taken left before now
 EndsWalk walked taken left no_memory before now = GainsFrontOf walked taken left before now
 EndsWalk walked taken left end before now = ⊥
 
--- bytes of the input were taken, and the watch of them ended so; where the input tells, `all` is what it had and `left` what it has left
+-- bytes of the input were taken, and the watch of them ended so; where the input shows it, `all` is what it had and `left` what it has left
 pub record Watches (signer : Signer) (seed : List ℕ) (all left : Option (List ℕ)) (answer : Ending) (before now : Option (List ℕ)) : Type 0 where
   pub taken : List ℕ
   pub cut : IsCutOf all taken left
@@ -155,7 +155,7 @@ pub record IsIdle (progress : Progress) : Type 0 where
 
 -- why a walk's events are the last ones: it ends at a fault, and their lines were written, or a front of these was
 abbrev pub StopsShowing : Walk → Ending → Option (List ℕ) → Option (List ℕ) → Type 0
-StopsShowing walked (check_failed (Chain told)) before now = (walked.at ≡ failed told) × Gains before now (event_lines walked.events)
+StopsShowing walked (check_failed (Chain fault)) before now = (walked.at ≡ failed fault) × Gains before now (event_lines walked.events)
 StopsShowing walked output_fault before now = GainsPrefix before now (event_lines walked.events)
 StopsShowing walked no_memory before now = GainsPrefix before now (event_lines walked.events)
 StopsShowing walked end before now = ⊥
@@ -163,7 +163,7 @@ StopsShowing walked end before now = ⊥
 -- where a watch is that walked over all that it took: at this fault, or at none
 abbrev pub StandsAt : Watching → Option ChainFault → Type 0
 StandsAt watch None = IsCurrent watch
-StandsAt watch (Some told) = watch.at ≡ failed told
+StandsAt watch (Some fault) = watch.at ≡ failed fault
 
 -- the bytes that waited were walked, with these events, and none waits any more
 pub record WalksWaiting (old new : Progress) (events : List Parts) (fault : Option ChainFault) : Type 0 where
@@ -218,7 +218,7 @@ ReadsInput old all left new before now (Err status) = ReadsSome old all left (en
 -- a whole chain was read, or one that can't end there
 abbrev pub EndsInput : Progress → Ending → Option (List ℕ) → Option (List ℕ) → Type 0
 EndsInput progress done before now = (ending progress.watch.at ≡ Ok tt) × Gains before now (count_line progress.shown)
-EndsInput progress (check_failed (Chain told)) before now = (ending progress.watch.at ≡ Err told) × (now ≡ before)
+EndsInput progress (check_failed (Chain fault)) before now = (ending progress.watch.at ≡ Err fault) × (now ≡ before)
 EndsInput progress output_fault before now = (ending progress.watch.at ≡ Ok tt) × GainsPrefix before now (count_line progress.shown)
 EndsInput progress no_memory before now = (now ≡ before) ⊎ ((ending progress.watch.at ≡ Ok tt) × GainsPrefix before now (count_line progress.shown))
 EndsInput progress end before now = ⊥

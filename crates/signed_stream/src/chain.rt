@@ -7,9 +7,8 @@ ghost use Rattle.eventstream.specs.Told.{SignsLink, signs_over};
 ghost use Rattle.event_io.specs.Chain.{next_bytes, next_unsigned};
 ghost use Rattle.aws_auth.specs.MessageSigner.{running_signature, signer_in, told_of};
 ghost use Rattle.signed_stream.specs.Chain.{frame_text};
-ghost use Rattle.signed_stream.specs.Halt.{Sends};
 ghost use Rattle.signed_stream.specs.Status.{stream_ending};
-ghost use Rattle.signed_stream.specs.Sending.{IsSealer, IsSignFault, IsWriteFault, PutsFrame, Seals, SendsChain, sign_ending, write_ending};
+ghost use Rattle.signed_stream.specs.Sending.{IsSealer, IsSignFault, IsWriteFault, PutsFrame, Seals, SendsChain, sign_ending, write_ending, Sends};
 
 use crate::form::Form;
 use crate::status::StreamFault;

@@ -5,7 +5,7 @@ ghost use Rattle.signed_stream.specs.Carriers.{GoesForRecord, IsAfterTexts};
 ghost use Rattle.signed_stream.specs.CheckRecord.{ChecksRecord, GoesForSeal, shown_events};
 ghost use Rattle.signed_stream.specs.Command.{check_record};
 ghost use Rattle.signed_stream.specs.EventLines.{AreFramed};
-ghost use Rattle.signed_stream.specs.Halt.{Sends};
+ghost use Rattle.signed_stream.specs.Sending.{Sends};
 ghost use Rattle.signed_stream.specs.Options.{check_wanted};
 ghost use Rattle.job_text.specs.Record.{record_parts};
 ghost use Rattle.signed_stream.specs.Running.{NamesUnreadable};

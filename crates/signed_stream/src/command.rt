@@ -2,15 +2,18 @@ ghost use Rattle.std.specs.Prelude.{map};
 ghost use Rattle.std.specs.String.{string_bytes};
 ghost use Rattle.job_text.specs.Pieces.{taken_from};
 ghost use Rattle.signed_stream.specs.ChunkWords.{chunk_word, no_chunk_given};
-ghost use Rattle.signed_stream.specs.Command.{command, check_word, check_words, chunk_words, command_from, no_check_given, no_options, no_profile_given, settings_word, settings_words, stream_command, stream_word};
+ghost use Rattle.signed_stream.specs.Command.{command, check_rules, check_words, chunk_words, command_from, no_check_given, no_stream_given, settings_words, stream_rules, stream_words};
+ghost use Rattle.signed_stream.specs.OptionWords.{options_from};
+ghost use Rattle.signed_stream.specs.ProfileOptions.{nothing_wanted, profile_rules};
 ghost use Rattle.signed_stream.specs.Options.{ReadsCheck, ReadsChunk, ReadsProfile, ReadsStream, ReadsWords};
 
 mod check;
 mod chunk;
 mod generator;
-mod options;
+mod option_words;
 mod profile;
 mod request;
+mod stream;
 mod watch;
 
 pub use crate::command::check::CheckWords;
@@ -19,11 +22,11 @@ pub use crate::command::chunk::ChunkWords;
 use crate::command::chunk::GivenChunk;
 pub use crate::command::generator::GeneratorWords;
 use crate::command::generator::read_generator;
-use crate::command::options::GivenOptions;
-pub use crate::command::options::StreamWords;
-use crate::command::profile::GivenProfile;
+use crate::command::option_words::read_options;
 pub use crate::command::profile::{NamedFile, ProfileOption, ProfileOptions};
 pub use crate::command::request::{RequestWords, read_request_words};
+use crate::command::stream::GivenStream;
+pub use crate::command::stream::StreamWords;
 pub use crate::command::watch::{WatchWords, read_watch};
 use job_text::{WordsFault, take_words};
 use std::alloc::Global;
@@ -63,7 +66,7 @@ pub fn read_words<'a>(alloc: Global, words: &'a [String]) -> Result<Command<'a>,
         return Err(WordsFault::BadWord(1));
     };
     match first.as_str() {
-        "stream" => Ok(Command::OfInput(InputCommand::Stream(read_options(alloc, rest)?))),
+        "stream" => Ok(Command::OfInput(InputCommand::Stream(read_stream(alloc, rest)?))),
         "settings" => Ok(Command::OfInput(InputCommand::Settings(read_profile(alloc, rest)?))),
         "gen" => Ok(Command::Generate(read_generator(rest)?)),
         "check" => Ok(Command::OfInput(InputCommand::Check(read_check(alloc, rest)?))),
@@ -73,29 +76,26 @@ pub fn read_words<'a>(alloc: Global, words: &'a [String]) -> Result<Command<'a>,
 }
 
 // What the words after `stream` ask for.
-fn read_options<'a>(alloc: Global, words: &'a [String]) -> Result<StreamWords<'a>, WordsFault>
-    ensures { ReadsStream (command_from stream_command (taken_from stream_word 2 no_options (map string_bytes words.now))) result }
+fn read_stream<'a>(alloc: Global, words: &'a [String]) -> Result<StreamWords<'a>, WordsFault>
+    ensures { ReadsStream (command_from stream_words (options_from stream_rules 2 no_stream_given (map string_bytes words.now))) result }
 {
-    let mut given = GivenOptions::new(alloc);
-    let place = take_words(&mut given, 2, words)?;
+    let (given, place) = read_options(GivenStream::new(alloc), 2, words)?;
     given.finish(place)
 }
 
 // What the words after `settings` ask for.
 fn read_profile<'a>(alloc: Global, words: &'a [String]) -> Result<ProfileOptions<'a>, WordsFault>
-    ensures { ReadsProfile (command_from settings_words (taken_from settings_word 2 no_profile_given (map string_bytes words.now))) result }
+    ensures { ReadsProfile (command_from settings_words (options_from profile_rules 2 nothing_wanted (map string_bytes words.now))) result }
 {
-    let mut given = GivenProfile::new(alloc);
-    let place = take_words(&mut given, 2, words)?;
-    given.finish(place)
+    let (profile, _) = read_options(ProfileOptions::new(alloc), 2, words)?;
+    Ok(profile)
 }
 
 // What the words after `check` ask for.
 fn read_check<'a>(alloc: Global, words: &'a [String]) -> Result<CheckWords<'a>, WordsFault>
-    ensures { ReadsCheck (command_from check_words (taken_from check_word 2 no_check_given (map string_bytes words.now))) result }
+    ensures { ReadsCheck (command_from check_words (options_from check_rules 2 no_check_given (map string_bytes words.now))) result }
 {
-    let mut given = GivenCheck::new(alloc);
-    let place = take_words(&mut given, 2, words)?;
+    let (given, place) = read_options(GivenCheck::new(alloc), 2, words)?;
     given.finish(place)
 }
 

@@ -3,7 +3,7 @@ ghost use Rattle.std.specs.Prelude.{◌≡◌, None, IsErrOf};
 ghost use Rattle.smithy_core.specs.Outside.{CountsFault};
 ghost use Rattle.eventstream.specs.Frame.{unframed};
 ghost use Rattle.signed_stream.specs.EventLines.{AreFramed, count_line, event_line, event_lines};
-ghost use Rattle.signed_stream.specs.Halt.{Sends};
+ghost use Rattle.signed_stream.specs.Sending.{Sends};
 
 use crate::chain::{write_frame, write_text};
 use crate::form::Form;

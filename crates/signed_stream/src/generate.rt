@@ -6,7 +6,7 @@ ghost use Rattle.hex.specs.Hex.{encode_lower};
 ghost use Rattle.sigv4.specs.Signed.{signature_of};
 ghost use Rattle.signed_stream.specs.Generate.{AreDrawn, AreGeneratedOptions, IsGeneratedIdentity, generate_plan, generated_case, generated_moment, generated_stream, shown_stream};
 ghost use Rattle.signed_stream.specs.Generator.{drawn_events};
-ghost use Rattle.signed_stream.specs.Halt.{Sends};
+ghost use Rattle.signed_stream.specs.Sending.{Sends};
 ghost use Rattle.signed_stream.specs.Plan.{GoesAsPlanned};
 ghost use Rattle.signed_stream.specs.Running.{IsOfOutput};
 ghost use Rattle.signed_stream.specs.Sign.{SealsFor};

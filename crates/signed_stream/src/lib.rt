@@ -49,7 +49,7 @@ pub use crate::shared_status::SharedStatus;
 pub use crate::sign::fault_of;
 pub use crate::sources::{SelectFault, select};
 pub use crate::status::{CheckFault, Status, StreamFault};
-pub use crate::streaming::{StreamOptions, sign_and_send, sign_and_stream};
+pub use crate::streaming::{StreamOptions, StreamedRequest, sign_and_send, sign_and_stream};
 pub use crate::written::head_of;
 pub use chain_watch::{ChainFault, ChainPart, check_chain};
 pub use job_text::{Job, JobFault, read_job};

@@ -4,12 +4,11 @@ ghost use Rattle.smithy_core.specs.Outside.{CountsFault, IsAtEnd, IsRestOf};
 ghost use Rattle.signed_stream.specs.Carriers.{GoesForBytes, GoesForInput, IsAfterInput};
 ghost use Rattle.signed_stream.specs.Command.{command};
 ghost use Rattle.signed_stream.specs.Options.{input_commanded};
-ghost use Rattle.signed_stream.specs.Plan.{Supplied, most_input};
+ghost use Rattle.signed_stream.specs.Plan.{most_input};
 ghost use Rattle.smithy_core.specs.Given.{Gives};
-ghost use Rattle.signed_stream.specs.Running.{AsksDiskLast, EndsAsAsked, KeepsDisk, KeepsOutput, NamesUnreadable, AsksWatch, Ran, RanWatch, Unless, UnlessTask, UnlessCommand, Went, When, task, comes_late, read_after_watch, reads_files, reads_input, takes_files, takes_input};
+ghost use Rattle.signed_stream.specs.Running.{AsksDiskLast, EndsAsAsked, KeepsDisk, KeepsOutput, NamesUnreadable, AsksWatch, Unless, UnlessTask, UnlessCommand, Went, When, task, comes_late, reads_files, reads_input, takes_files, takes_input};
 ghost use Rattle.signed_stream.specs.Sources.{DiskGives};
 ghost use Rattle.signed_stream.specs.Status.{could_not_read_file, done, ending_of, output_fault, read_fault};
-ghost use Rattle.signed_stream.specs.WatchChain.{UnlessRead};
 
 use crate::check_record::check_record;
 use crate::command::{Command, InputCommand, read_words};
@@ -84,8 +83,14 @@ pub fn run<S: ByteSource, D: Disk, C: Clock, K: ByteSink, E: ByteSink>(
         × (E.faults err.old ≤ E.faults err.new) }
 {
     match words_of_watch(words) {
-        Some(rest) => run_watch(alloc, rest, env, input, disk, clock, out, err),
-        None => run_command(alloc, words, env, input, disk, clock, out, err),
+        Some(rest) => {
+            let status = watch(alloc, rest, env, input, disk, out);
+            say(alloc, status, err)
+        }
+        None => {
+            let status = answer(alloc, words, env, input, disk, clock, out);
+            say(alloc, status, err)
+        }
     }
 }
 
@@ -101,63 +106,6 @@ fn words_of_watch(words: &[String]) -> Option<&[String]>
         "watch" => Some(rest),
         _ => None,
     }
-}
-
-// Checks a chain while it comes, as the words behind `watch` ask for, and says on `err` how it ended.
-fn run_watch<S: ByteSource, D: Disk, C: Clock, K: ByteSink, E: ByteSink>(
-    alloc: Global,
-    words: &[String],
-    env: &Env,
-    input: &mut S,
-    disk: &mut D,
-    clock: &mut C,
-    out: &mut K,
-    err: &mut E,
-) -> Status
-    ensures headline { RanWatch (DiskGives D.answers D.faults (D.files disk.old) env.now disk.old disk.new)
-        (λ taken. Gives C.Clock clock.old taken clock.new) env.now
-        (read_after_watch (map string_bytes words.now)) (S.left input.old) (S.left input.new) (ending_of result) (S.faults input.old) (S.faults input.new)
-        (record { held_before = K.held out.old; held_now = K.held out.new; faults_before = K.faults out.old; faults_now = K.faults out.new })
-        (record { held_before = E.held err.old; held_now = E.held err.new; faults_before = E.faults err.old; faults_now = E.faults err.new }) }
-    ensures untouched { UnlessRead (read_after_watch (map string_bytes words.now)) ((K.held out.new ≡ K.held out.old) × (K.faults out.new ≡ K.faults out.old)) }
-    ensures unread { UnlessRead (read_after_watch (map string_bytes words.now)) ((S.left input.new ≡ S.left input.old) × (S.faults input.new ≡ S.faults input.old)) }
-    ensures same { D.files disk.new ≡ D.files disk.old }
-    ensures unasked { UnlessRead (read_after_watch (map string_bytes words.now)) (disk.new ≡ disk.old) }
-    ensures at_end { ending_of result ≡ done → IsAtEnd (S.left input.new) }
-    ensures rest { IsRestOf (S.left input.old) (S.left input.new) }
-    ensures count { (S.faults input.old ≤ S.faults input.new) × (D.faults disk.old ≤ D.faults disk.new) × (K.faults out.old ≤ K.faults out.new)
-        × (E.faults err.old ≤ E.faults err.new) }
-{
-    let status = watch(alloc, words, env, input, disk, out);
-    say(alloc, status, err)
-}
-
-// Does what the words ask for, where they don't ask to watch, and says on `err` how it ended.
-fn run_command<S: ByteSource, D: Disk, C: Clock, K: ByteSink, E: ByteSink>(
-    alloc: Global,
-    words: &[String],
-    env: &Env,
-    input: &mut S,
-    disk: &mut D,
-    clock: &mut C,
-    out: &mut K,
-    err: &mut E,
-) -> Status
-    ensures headline { (given : Supplied) × Ran (DiskGives D.answers D.faults (D.files disk.old) env.now disk.old disk.new)
-        (λ taken. Gives C.Clock clock.old taken clock.new) env.now
-        (command (map string_bytes words.now)) (S.left input.old) given (ending_of result) (S.faults input.old) (S.faults input.new)
-        (record { held_before = K.held out.old; held_now = K.held out.new; faults_before = K.faults out.old; faults_now = K.faults out.new })
-        (record { held_before = E.held err.old; held_now = E.held err.new; faults_before = E.faults err.old; faults_now = E.faults err.new }) }
-    ensures untouched { UnlessCommand (command (map string_bytes words.now)) ((K.held out.new ≡ K.held out.old) × (K.faults out.new ≡ K.faults out.old)) }
-    ensures unread { Unless (reads_input (command (map string_bytes words.now))) ((S.left input.new ≡ S.left input.old) × (S.faults input.new ≡ S.faults input.old)) }
-    ensures disk { KeepsDisk (ending_of result) disk.old disk.new × (D.files disk.new ≡ D.files disk.old) }
-    ensures unasked { Unless (reads_files (command (map string_bytes words.now))) (disk.new ≡ disk.old) }
-    ensures outside { When (reads_input (command (map string_bytes words.now))) (ending_of result ≡ done → IsAtEnd (S.left input.new)) × IsRestOf (S.left input.old) (S.left input.new)
-        × (S.faults input.old ≤ S.faults input.new) × (D.faults disk.old ≤ D.faults disk.new) × (K.faults out.old ≤ K.faults out.new)
-        × (E.faults err.old ≤ E.faults err.new) }
-{
-    let status = answer(alloc, words, env, input, disk, clock, out);
-    say(alloc, status, err)
 }
 
 // Does what the words ask for, and answers how it ended.

@@ -25,7 +25,7 @@ pub fn say<E: ByteSink>(alloc: Global, status: Status, err: &mut E) -> Status
 }
 
 fn say_line<E: ByteSink>(status: Status, line: &str, err: &mut E) -> Status
-    requires told { ending_of status ≡ done → ⊥ }
+    requires not_done { ending_of status ≡ done → ⊥ }
     requires line { line.now ≡ ending_line (ending_of status) }
     ensures answer { (ending_of result ≡ ending_of status) ⊎ (ending_of result ≡ no_memory) }
     ensures said { SaysEnding (ending_of result) (E.held err.old) (E.held err.new) (E.faults err.old) (E.faults err.new) }

@@ -6,7 +6,7 @@ ghost use Rattle.aws_chunked.specs.Options.{declared_length};
 ghost use Rattle.aws_chunked.specs.SoundBody.{IsSoundBody, IsSoundBodyOf, text_left};
 ghost use Rattle.signed_stream.specs.ChunkJob.{chunk_plan, shown_chunks};
 ghost use Rattle.signed_stream.specs.ChunkWords.{chunk_wanted};
-ghost use Rattle.signed_stream.specs.Halt.{Sends};
+ghost use Rattle.signed_stream.specs.Sending.{Sends};
 ghost use Rattle.signed_stream.specs.Plan.{GoesAsPlanned, most_input};
 ghost use Rattle.signed_stream.specs.Running.{IsOfOutput};
 ghost use Rattle.signed_stream.specs.Status.{ending_of, output_fault};

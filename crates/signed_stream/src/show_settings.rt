@@ -2,7 +2,7 @@ ghost use Rattle.std.specs.Prelude.{◌≡◌, ◌≤◌, ℕ, List, None, IsErr
 ghost use Rattle.smithy_core.specs.Outside.{CountsFault};
 ghost use Rattle.signed_stream.specs.Carriers.{GoesForTexts, IsAfterTexts};
 ghost use Rattle.signed_stream.specs.Command.{show_settings};
-ghost use Rattle.signed_stream.specs.Halt.{Sends};
+ghost use Rattle.signed_stream.specs.Sending.{Sends};
 ghost use Rattle.signed_stream.specs.ProfileOptions.{profile_wanted};
 ghost use Rattle.job_text.specs.ProfileTexts.{texts_of};
 ghost use Rattle.signed_stream.specs.Running.{NamesUnreadable};

@@ -1,5 +1,5 @@
 ghost use Rattle.std.specs.Prelude.{◌≡◌, IfOk};
-ghost use Rattle.signed_stream.specs.Halt.{ended};
+ghost use Rattle.signed_stream.specs.Status.{ended};
 ghost use Rattle.signed_stream.specs.Status.{ending_of};
 
 use crate::settings::SettingsFault;

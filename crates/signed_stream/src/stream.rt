@@ -10,13 +10,13 @@ ghost use Rattle.signed_stream.specs.Options.{IsOptionsOf, wanted_of};
 ghost use Rattle.signed_stream.specs.Running.{NamesUnreadable, OfClock};
 ghost use Rattle.signed_stream.specs.Streaming.{TakesFor, job_with, stream_plan};
 ghost use Rattle.signed_stream.specs.Sources.{DiskGives};
-ghost use Rattle.signed_stream.specs.Halt.{ended};
+ghost use Rattle.signed_stream.specs.Status.{ended};
 ghost use Rattle.signed_stream.specs.Status.{could_not_read_file, ending_of, output_fault};
 
 use crate::command::StreamWords;
 use crate::sources::load_source;
 use crate::status::{Status, StreamFault, status_of};
-use crate::streaming::{StreamOptions, send_owned};
+use crate::streaming::{StreamOptions, StreamedRequest, sign_and_send};
 use env_config::Source;
 use job_text::{Job, ProfileTexts, copied};
 use smithy_core::{ByteSink, Clock, Disk, Env, FixedClock, HttpRequest, Mem, Message};
@@ -78,37 +78,19 @@ fn stream_source<C: Clock, K: ByteSink>(
     let at = words.at;
     let form = words.form;
     let options = options_of(alloc, words)?;
+    let stream = StreamedRequest {
+        request,
+        events,
+        options: &options,
+        form,
+    };
     let mut moments = Vec::new(alloc);
     match at {
         Some(at) => {
             let mut fixed = FixedClock::new(at);
-            send_owned(
-                alloc,
-                source,
-                env,
-                request,
-                &options,
-                events,
-                &mut fixed,
-                form,
-                out,
-                &mut moments,
-            )
+            sign_and_send(alloc, source, env, stream, &mut fixed, out, &mut moments)
         }
-        None => {
-            send_owned(
-                alloc,
-                source,
-                env,
-                request,
-                &options,
-                events,
-                clock,
-                form,
-                out,
-                &mut moments,
-            )
-        }
+        None => sign_and_send(alloc, source, env, stream, clock, out, &mut moments),
     }
 }
 

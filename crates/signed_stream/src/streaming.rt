@@ -3,9 +3,10 @@ ghost use Rattle.std.specs.String.{string_bytes};
 ghost use Rattle.smithy_core.specs.Given.{Gives, GivesEach};
 ghost use Rattle.smithy_core.specs.Outside.{CountsFault};
 ghost use Rattle.env_config.specs.Source.{file_of};
-ghost use Rattle.signed_stream.specs.Halt.{Sends, ended};
+ghost use Rattle.signed_stream.specs.Status.{ended};
+ghost use Rattle.signed_stream.specs.Sending.{Sends};
 ghost use Rattle.signed_stream.specs.Settings.{selected_in};
-ghost use Rattle.signed_stream.specs.Streaming.{IsSameStreamOptions, IsSentSigned, SignsAndStreams, Streams, job_with, stream_wanted};
+ghost use Rattle.signed_stream.specs.Streaming.{IsSameStreamOptions, IsSentSigned, SignsAndStreams, Streams, job_for, stream_wanted, wanted_for};
 ghost use Rattle.signed_stream.specs.Stream.{selected_plan};
 ghost use Rattle.signed_stream.specs.Written.{head_in_form};
 
@@ -52,6 +53,19 @@ impl StreamOptions {
     }
 }
 
+/// A request and the events that follow it, as they are to be streamed.
+#[derive(Drop)]
+pub struct StreamedRequest<'a> {
+    /// The request, which isn't signed.
+    pub request: HttpRequest,
+    /// The events, in order.
+    pub events: Vec<Message>,
+    /// For what and how the request is signed.
+    pub options: &'a StreamOptions,
+    /// In which form head and frames are written.
+    pub form: Form,
+}
+
 /// Signs a request by AWS Signature Version 4 and streams its events to a sink: the head of the signed request, and
 /// then a chain of event stream frames, one for each event in order and an empty one last, each signed over the
 /// signature before it, the first over that of the request. The answer is the signed request.
@@ -60,7 +74,7 @@ impl StreamOptions {
 /// moment each of the clock, in this order; `moments` gains each that was taken, whatever the answer. In
 /// [`Form::Raw`] the frames alone are written, one piece each; in [`Form::HexLines`] the head is one piece more.
 ///
-/// The events are copied first, but for their payloads, which are shared; [`sign_and_send`] takes its own and copies none.
+/// The request and its events are copied first, but for the events' payloads, which are shared; [`sign_and_send`] takes its own and copies none.
 ///
 /// ```rust
 /// let source = load(alloc, &env, &mut disk, &files)?;
@@ -95,89 +109,65 @@ pub fn sign_and_stream<C: Clock, K: ByteSink>(
         (K.held sink.old) (K.held sink.new) }
     ensures counts { CountsFault (IsErrOf result StreamFault.SinkFault) (K.faults sink.old) (K.faults sink.new) }
 {
-    let events = copied_events(alloc, events)?;
-    sign_and_send(
-        alloc, source, env, request, options, events, clock, form, sink, moments,
-    )
-}
-
-/// Signs a request and streams its events as [`sign_and_stream`] does, of which each goes when it is sent.
-///
-/// # Errors
-///
-/// As those of [`sign_and_stream`].
-pub fn sign_and_send<C: Clock, K: ByteSink>(
-    alloc: Global,
-    source: &Source,
-    env: &Env,
-    request: &HttpRequest,
-    options: &StreamOptions,
-    events: Vec<Message>,
-    clock: &mut C,
-    form: Form,
-    sink: &mut K,
-    moments: &mut Vec<Moment>,
-) -> Result<HttpRequest, StreamFault>
-    ensures streams { SignsAndStreams (λ taken. Gives C.Clock clock.old taken clock.new) moments.old.items moments.new.items
-        (map file_of source.now.files.items) (string_bytes source.now.profile) env.now (stream_wanted options.now form) request.now events.items result
-        (K.held sink.old) (K.held sink.new) }
-    ensures counts { CountsFault (IsErrOf result StreamFault.SinkFault) (K.faults sink.old) (K.faults sink.new) }
-{
     let request = request.try_clone()?;
-    send_owned(
-        alloc, source, env, request, options, events, clock, form, sink, moments,
-    )
+    let events = copied_events(alloc, events)?;
+    let stream = StreamedRequest {
+        request,
+        events,
+        options,
+        form,
+    };
+    sign_and_send(alloc, source, env, stream, clock, sink, moments)
 }
 
-/// Signs a request and streams its events as [`sign_and_send`] does, without a copy of the request: its headers are there once.
+/// Signs a request and streams its events as [`sign_and_stream`] does, without a copy of them: the request's headers are there once,
+/// and an event goes when it is sent.
 ///
 /// # Errors
 ///
 /// As those of [`sign_and_stream`].
 #[tactic(auto, unfolding(crate::specs::Settings::settings))]
-pub fn send_owned<C: Clock, K: ByteSink>(
+pub fn sign_and_send<C: Clock, K: ByteSink>(
     alloc: Global,
     source: &Source,
     env: &Env,
-    request: HttpRequest,
-    options: &StreamOptions,
-    events: Vec<Message>,
+    stream: StreamedRequest<'_>,
     clock: &mut C,
-    form: Form,
     sink: &mut K,
     moments: &mut Vec<Moment>,
 ) -> Result<HttpRequest, StreamFault>
     ensures streams { SignsAndStreams (λ taken. Gives C.Clock clock.old taken clock.new) moments.old.items moments.new.items
-        (map file_of source.now.files.items) (string_bytes source.now.profile) env.now (stream_wanted options.now form) request events.items result
+        (map file_of source.now.files.items) (string_bytes source.now.profile) env.now (wanted_for stream.entry) stream.entry.request stream.entry.events.items result
         (K.held sink.old) (K.held sink.new) }
     ensures counts { CountsFault (IsErrOf result StreamFault.SinkFault) (K.faults sink.old) (K.faults sink.new) }
 {
-    let settings = read_settings(alloc, source, env, lent(&options.service_id))?;
-    stream_selected(
-        alloc, settings, request, options, events, clock, form, sink, moments,
-    )
+    let settings = read_settings(alloc, source, env, lent(&stream.options.service_id))?;
+    stream_selected(alloc, settings, stream, clock, sink, moments)
 }
 
 // Signs the request and streams the events under what was selected.
 fn stream_selected<C: Clock, K: ByteSink>(
     alloc: Global,
     settings: Settings,
-    request: HttpRequest,
-    options: &StreamOptions,
-    events: Vec<Message>,
+    stream: StreamedRequest<'_>,
     clock: &mut C,
-    form: Form,
     sink: &mut K,
     moments: &mut Vec<Moment>,
 ) -> Result<HttpRequest, StreamFault>
-    ensures streams { Streams (λ taken. GivesEach C.Clock clock.old taken clock.new) moments.old.items moments.new.items (string_bytes request.target)
-        (λ target taken. selected_plan (job_with request events.items) (stream_wanted options.now form) target taken (selected_in settings))
+    ensures streams { Streams (λ taken. GivesEach C.Clock clock.old taken clock.new) moments.old.items moments.new.items (string_bytes stream.entry.request.target)
+        (λ target taken. selected_plan (job_for stream.entry) (wanted_for stream.entry) target taken (selected_in settings))
         (ended result) (K.held sink.old) (K.held sink.new) }
-    ensures signed { IfOk result (IsSentSigned (job_with request events.items) (stream_wanted options.now form) (selected_in settings) request moments.old.items moments.new.items) }
+    ensures signed { IfOk result (IsSentSigned (job_for stream.entry) (wanted_for stream.entry) (selected_in settings) stream.entry.request moments.old.items moments.new.items) }
     ensures counts { CountsFault (IsErrOf result StreamFault.SinkFault) (K.faults sink.old) (K.faults sink.new) }
 {
     let identity = Identity::Credentials(settings.credentials);
     let region = settings.region.as_str();
+    let StreamedRequest {
+        request,
+        events,
+        options,
+        form,
+    } = stream;
     let first = take_moment(clock, moments)?;
     let (signed, signer) = sign_request(alloc, request, &identity, region, options, first)?;
     write_head(alloc, &signed, form, sink)?;

@@ -2,7 +2,6 @@
 ghost use Rattle.std.specs.Prelude.{◌≡◌, ◌≤◌, ℕ, List, [], IfOk, OnOk, map};
 ghost use Rattle.std.specs.String.{string_bytes};
 ghost use Rattle.smithy_core.specs.Outside.{CountsFault};
-ghost use Rattle.job_text.specs.Pieces.{taken_from};
 ghost use Rattle.chain_watch.specs.declared.chain_fault.ChainFault.TheVariants.{NoMemory};
 ghost use Rattle.signed_stream.specs.Counts.{CountsStep};
 ghost use Rattle.signed_stream.specs.Plan.{unreadable};
@@ -10,7 +9,7 @@ ghost use Rattle.signed_stream.specs.Settings.{selected_in};
 ghost use Rattle.signed_stream.specs.Sources.{DiskGives};
 ghost use Rattle.signed_stream.specs.Status.{could_not_read_file, ending_of, output_fault, read_fault};
 ghost use Rattle.signed_stream.specs.WatchChain.{EndsInput, IsFit, IsIdle, IsUnfed, NamesUnread, ReadsInput, ShowsWaiting, TakesNext, UnlessRead, WalksWaiting, Watches, WatchesInput, WatchesWords, watch_signer};
-ghost use Rattle.signed_stream.specs.WatchWords.{no_watch_given, watch_from, watch_wanted, watch_word};
+ghost use Rattle.signed_stream.specs.WatchWords.{read_after_watch, watch_wanted};
 
 use crate::command::{WatchWords, read_watch};
 use crate::event_lines::{write_count, write_lines};
@@ -38,12 +37,12 @@ pub fn watch<S: ByteSource, D: Disk, K: ByteSink>(
     disk: &mut D,
     out: &mut K,
 ) -> Status
-    ensures watches { WatchesWords (DiskGives D.answers D.faults (D.files disk.old) env.now disk.old disk.new) env.now (watch_from (taken_from watch_word 2 no_watch_given (map string_bytes words.now)))
+    ensures watches { WatchesWords (DiskGives D.answers D.faults (D.files disk.old) env.now disk.old disk.new) env.now (read_after_watch (map string_bytes words.now))
         (S.left input.old) (S.left input.new) (ending_of result) (K.held out.old) (K.held out.new) }
     ensures named { (path : List ℕ) → ending_of result ≡ could_not_read_file path
-        → NamesUnread (DiskGives D.answers D.faults (D.files disk.old) env.now disk.old disk.new) (watch_from (taken_from watch_word 2 no_watch_given (map string_bytes words.now))) path }
+        → NamesUnread (DiskGives D.answers D.faults (D.files disk.old) env.now disk.old disk.new) (read_after_watch (map string_bytes words.now)) path }
     ensures same { D.files disk.new ≡ D.files disk.old }
-    ensures unasked { UnlessRead (watch_from (taken_from watch_word 2 no_watch_given (map string_bytes words.now))) (disk.new ≡ disk.old) }
+    ensures unasked { UnlessRead (read_after_watch (map string_bytes words.now)) (disk.new ≡ disk.old) }
     ensures reads { CountsFault (ending_of result ≡ read_fault) (S.faults input.old) (S.faults input.new) }
     ensures writes { CountsFault (ending_of result ≡ output_fault) (K.faults out.old) (K.faults out.new) }
     ensures count { D.faults disk.old ≤ D.faults disk.new }
@@ -234,7 +233,7 @@ impl Progress {
 
 // A fault of the chain, which stays whatever memory there is.
 fn lasting(fault: ChainFault) -> Mem<ChainFault>
-    ensures { IfOk result (λ told. (told ≡ fault) × (told ≡ NoMemory → ⊥)) }
+    ensures { IfOk result (λ kept. (kept ≡ fault) × (kept ≡ NoMemory → ⊥)) }
 {
     match fault {
         ChainFault::NoMemory => Err(AllocError),

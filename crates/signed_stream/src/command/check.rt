@@ -1,11 +1,11 @@
 //! The words of `check`.
-ghost use Rattle.std.specs.Prelude.{◌≡◌, None, OnOk};
-ghost use Rattle.signed_stream.specs.Command.{check_option, check_words, no_check_given, stands_in_check, with_check_option};
+ghost use Rattle.std.specs.Prelude.{◌≡◌};
+ghost use Rattle.signed_stream.specs.Command.{check_words, no_check_given};
 ghost use Rattle.signed_stream.specs.Options.{ReadsCheck, check_given};
 
+use crate::command::option_words::TakeOption;
 use crate::command::profile::{ProfileOption, ProfileOptions};
-use job_text::{TakeWord, WordsFault};
-use smithy_core::Mem;
+use job_text::WordsFault;
 use std::alloc::Global;
 
 /// What `check` is asked for.
@@ -17,32 +17,18 @@ pub struct CheckWords<'a> {
     pub profile: ProfileOptions<'a>,
 }
 
-/// An option of `check`, whose value is the next word.
+/// An option of `check`.
 #[derive(Clone, Copy, Debug)]
 pub enum CheckOption {
     Name,
     OfProfile(ProfileOption),
 }
 
-impl CheckOption {
-    /// The option that a word names.
-    #[tactic(auto, unfolding(crate::specs::Command::check_option))]
-    pub fn named(word: &str) -> Option<CheckOption>
-        ensures { result ≡ check_option word.now }
-    {
-        if word == "--name" {
-            return Some(CheckOption::Name);
-        }
-        Some(CheckOption::OfProfile(ProfileOption::named(word)?))
-    }
-}
-
-/// What the words of `check` so far gave, and the option that waits for its value.
+/// What the options of `check` so far gave.
 #[derive(Drop)]
 pub struct GivenCheck<'a> {
     name: Option<&'a str>,
     profile: ProfileOptions<'a>,
-    awaited: Option<CheckOption>,
 }
 
 impl<'a> GivenCheck<'a> {
@@ -53,25 +39,58 @@ impl<'a> GivenCheck<'a> {
         GivenCheck {
             name: None,
             profile: ProfileOptions::new(alloc),
-            awaited: None,
         }
     }
 
-    // Whether the option stood.
-    fn has(&self, option: CheckOption) -> bool
-        ensures { result ≡ stands_in_check (check_given self.now) option }
+    /// What is asked, where the place after the last word is reached.
+    pub fn finish(self, place: usize) -> Result<CheckWords<'a>, WordsFault>
+        ensures { let given = check_given self.entry in ReadsCheck (check_words place given) result }
     {
+        match self.name {
+            Some(name) => Ok(CheckWords {
+                name,
+                profile: self.profile,
+            }),
+            None => Err(WordsFault::BadWord(place)),
+        }
+    }
+}
+
+impl<'a> TakeOption<'a> for GivenCheck<'a> {
+    ghost use Rattle.std.specs.Prelude.{◌≡◌};
+    ghost use Rattle.signed_stream.specs.Command.{CheckGiven, check_option, check_rules};
+    ghost use Rattle.signed_stream.specs.Options.{check_given};
+
+    type Named = CheckOption;
+
+    ghost Given = { CheckGiven };
+
+    ghost given = { check_given };
+
+    ghost rules = { check_rules };
+
+    fn named(word: &str) -> Option<CheckOption>
+        ensures { result ≡ check_option word.now }
+    {
+        match word {
+            "--name" => Some(CheckOption::Name),
+            _ => Some(CheckOption::OfProfile(ProfileOption::named(word)?)),
+        }
+    }
+
+    fn stood(&self, option: CheckOption) -> bool {
         match option {
             CheckOption::Name => self.name.is_some(),
             CheckOption::OfProfile(option) => self.profile.has(option),
         }
     }
 
-    // Takes the value of an option that no longer waits.
-    fn take_value(&mut self, option: CheckOption, value: &'a str) -> Mem<()>
-        requires { self.old.awaited ≡ None }
-        ensures { OnOk result (check_given self.new ≡ with_check_option (check_given self.old) option value.now) }
-    {
+    fn take_value(
+        &mut self,
+        option: CheckOption,
+        _place: usize,
+        value: &'a str,
+    ) -> Result<(), WordsFault> {
         match option {
             CheckOption::Name => self.name = Some(value),
             CheckOption::OfProfile(option) => self.profile.take(option, value)?,
@@ -79,40 +98,7 @@ impl<'a> GivenCheck<'a> {
         Ok(())
     }
 
-    /// What is asked, where the place after the last word is reached.
-    pub fn finish(self, place: usize) -> Result<CheckWords<'a>, WordsFault>
-        ensures { let given = check_given self.entry in ReadsCheck (check_words place given) result }
-    {
-        match (self.awaited, self.name) {
-            (None, Some(name)) => Ok(CheckWords {
-                name,
-                profile: self.profile,
-            }),
-            _ => Err(WordsFault::BadWord(place)),
-        }
-    }
-}
-
-impl<'a> TakeWord<'a> for GivenCheck<'a> {
-    ghost use Rattle.signed_stream.specs.Command.{CheckGiven, check_word};
-    ghost use Rattle.signed_stream.specs.Options.{check_given};
-
-    ghost Given = { CheckGiven };
-
-    ghost given = { check_given };
-
-    ghost step = { check_word };
-
-    fn take_word(&mut self, place: usize, word: &'a str) -> Result<(), WordsFault> {
-        if let Some(option) = self.awaited.take() {
-            self.take_value(option, word)?;
-            return Ok(());
-        }
-        let option = CheckOption::named(word).ok_or(WordsFault::BadWord(place))?;
-        if self.has(option) {
-            return Err(WordsFault::BadWord(place));
-        }
-        self.awaited = Some(option);
-        Ok(())
+    fn take_flag(&mut self, place: usize, _word: &str) -> Result<(), WordsFault> {
+        Err(WordsFault::BadWord(place))
     }
 }

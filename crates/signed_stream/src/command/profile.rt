@@ -1,12 +1,11 @@
 //! The options of profiles, which commands share.
 ghost use Rattle.std.specs.Prelude.{◌≡◌, OnOk};
 ghost use Rattle.std.specs.List.{list_any};
-ghost use Rattle.signed_stream.specs.Command.{no_profile_given, settings_words};
-ghost use Rattle.signed_stream.specs.Options.{ReadsProfile, profile_given};
 ghost use Rattle.signed_stream.specs.ProfileOptions.{is_same_kind, names_file, nothing_wanted, profile_option, profile_wanted, stands, with_profile_option};
 
+use crate::command::option_words::TakeOption;
 use env_config::EnvConfigFileKind;
-use job_text::{TakeWord, WordsFault};
+use job_text::WordsFault;
 use smithy_core::Mem;
 use std::alloc::Global;
 
@@ -104,55 +103,38 @@ fn is_same_kind(kind: EnvConfigFileKind, other: EnvConfigFileKind) -> bool
     kind == other
 }
 
-/// What the words of `settings` so far gave, and the option that waits for its value.
-#[derive(Drop)]
-pub struct GivenProfile<'a> {
-    profile: ProfileOptions<'a>,
-    awaited: Option<ProfileOption>,
-}
+impl<'a> TakeOption<'a> for ProfileOptions<'a> {
+    ghost use Rattle.std.specs.Prelude.{◌≡◌};
+    ghost use Rattle.signed_stream.specs.ProfileOptions.{ProfileWanted, profile_option, profile_rules, profile_wanted};
 
-impl<'a> GivenProfile<'a> {
-    /// No options.
-    pub fn new(alloc: Global) -> Self
-        ensures { profile_given result ≡ no_profile_given }
+    type Named = ProfileOption;
+
+    ghost Given = { ProfileWanted };
+
+    ghost given = { profile_wanted };
+
+    ghost rules = { profile_rules };
+
+    fn named(word: &str) -> Option<ProfileOption>
+        ensures { result ≡ profile_option word.now }
     {
-        GivenProfile {
-            profile: ProfileOptions::new(alloc),
-            awaited: None,
-        }
+        ProfileOption::named(word)
     }
 
-    /// What is asked, where the place after the last word is reached.
-    pub fn finish(self, place: usize) -> Result<ProfileOptions<'a>, WordsFault>
-        ensures { let given = profile_given self.entry in ReadsProfile (settings_words place given) result }
-    {
-        match self.awaited {
-            Some(_) => Err(WordsFault::BadWord(place)),
-            None => Ok(self.profile),
-        }
+    fn stood(&self, option: ProfileOption) -> bool {
+        self.has(option)
     }
-}
 
-impl<'a> TakeWord<'a> for GivenProfile<'a> {
-    ghost use Rattle.signed_stream.specs.Command.{ProfileGiven, settings_word};
-    ghost use Rattle.signed_stream.specs.Options.{profile_given};
+    fn take_value(
+        &mut self,
+        option: ProfileOption,
+        _place: usize,
+        value: &'a str,
+    ) -> Result<(), WordsFault> {
+        Ok(self.take(option, value)?)
+    }
 
-    ghost Given = { ProfileGiven };
-
-    ghost given = { profile_given };
-
-    ghost step = { settings_word };
-
-    fn take_word(&mut self, place: usize, word: &'a str) -> Result<(), WordsFault> {
-        if let Some(option) = self.awaited.take() {
-            self.profile.take(option, word)?;
-            return Ok(());
-        }
-        let option = ProfileOption::named(word).ok_or(WordsFault::BadWord(place))?;
-        if self.profile.has(option) {
-            return Err(WordsFault::BadWord(place));
-        }
-        self.awaited = Some(option);
-        Ok(())
+    fn take_flag(&mut self, place: usize, _word: &str) -> Result<(), WordsFault> {
+        Err(WordsFault::BadWord(place))
     }
 }

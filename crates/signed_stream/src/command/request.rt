@@ -1,13 +1,11 @@
 //! The words of a program that reads a job without events.
-ghost use Rattle.std.specs.Prelude.{◌≡◌, None, map};
-ghost use Rattle.std.specs.Int.{w64};
+ghost use Rattle.std.specs.Prelude.{◌≡◌, map};
 ghost use Rattle.std.specs.String.{string_bytes};
-ghost use Rattle.job_text.specs.Numbers.{number};
-ghost use Rattle.job_text.specs.Words.{TakesWord};
-ghost use Rattle.signed_stream.specs.RequestWords.{GivesMoment, ReadsRequestWords, all_request_words, at_or_place, no_request_given, request_given, request_option, request_wanted, request_words, stands_for_request, take_request_option, take_request_value, take_second};
+ghost use Rattle.signed_stream.specs.RequestWords.{GivesMoment, ReadsRequestWords, all_request_words, at_or_place, no_request_given, request_given, request_wanted, request_words};
 
+use crate::command::option_words::{TakeOption, parse_moment, read_options};
 use crate::command::profile::{ProfileOption, ProfileOptions};
-use job_text::{TakeWord, WordsFault, parse_i64, take_words};
+use job_text::WordsFault;
 use smithy_core::Moment;
 use std::alloc::Global;
 
@@ -35,7 +33,7 @@ impl RequestWords<'_> {
     }
 }
 
-/// An option whose value is the next word.
+/// An option.
 #[derive(Clone, Copy, Debug)]
 pub enum RequestOption {
     Name,
@@ -43,27 +41,12 @@ pub enum RequestOption {
     OfProfile(ProfileOption),
 }
 
-impl RequestOption {
-    /// The option that a word names.
-    #[tactic(auto, unfolding(crate::specs::RequestWords::request_option))]
-    pub fn named(word: &str) -> Option<RequestOption>
-        ensures { result ≡ request_option word.now }
-    {
-        match word {
-            "--name" => Some(RequestOption::Name),
-            "--at" => Some(RequestOption::At),
-            _ => Some(RequestOption::OfProfile(ProfileOption::named(word)?)),
-        }
-    }
-}
-
-/// What the words so far gave, and the option that waits for its value.
+/// What the options so far gave.
 #[derive(Drop)]
 pub struct GivenRequest<'a> {
     name: Option<&'a str>,
     at: Option<Moment>,
     profile: ProfileOptions<'a>,
-    awaited: Option<RequestOption>,
 }
 
 impl<'a> GivenRequest<'a> {
@@ -75,14 +58,47 @@ impl<'a> GivenRequest<'a> {
             name: None,
             at: None,
             profile: ProfileOptions::new(alloc),
-            awaited: None,
         }
     }
 
-    // Whether the option stood.
-    fn has(&self, option: RequestOption) -> bool
-        ensures { result ≡ stands_for_request (request_given self.now) option }
+    /// What is asked, where the place after the last word is reached.
+    pub fn finish(self, place: usize) -> Result<RequestWords<'a>, WordsFault>
+        ensures { let given = request_given self.entry in ReadsRequestWords (all_request_words place given) result }
     {
+        match self.name {
+            Some(name) => Ok(RequestWords {
+                name,
+                at: self.at,
+                profile: self.profile,
+            }),
+            None => Err(WordsFault::BadWord(place)),
+        }
+    }
+}
+
+impl<'a> TakeOption<'a> for GivenRequest<'a> {
+    ghost use Rattle.std.specs.Prelude.{◌≡◌};
+    ghost use Rattle.signed_stream.specs.RequestWords.{RequestGiven, request_given, request_option, request_rules};
+
+    type Named = RequestOption;
+
+    ghost Given = { RequestGiven };
+
+    ghost given = { request_given };
+
+    ghost rules = { request_rules };
+
+    fn named(word: &str) -> Option<RequestOption>
+        ensures { result ≡ request_option word.now }
+    {
+        match word {
+            "--name" => Some(RequestOption::Name),
+            "--at" => Some(RequestOption::At),
+            _ => Some(RequestOption::OfProfile(ProfileOption::named(word)?)),
+        }
+    }
+
+    fn stood(&self, option: RequestOption) -> bool {
         match option {
             RequestOption::Name => self.name.is_some(),
             RequestOption::At => self.at.is_some(),
@@ -90,78 +106,24 @@ impl<'a> GivenRequest<'a> {
         }
     }
 
-    // Takes the option at a place.
-    fn take_option(&mut self, place: usize, word: &str) -> Result<(), WordsFault>
-        requires { self.old.awaited ≡ None }
-        ensures { TakesWord (take_request_option (request_given self.old) (request_option word.now)) place (request_given self.new) result }
-    {
-        let option = RequestOption::named(word).ok_or(WordsFault::BadWord(place))?;
-        if self.has(option) {
-            return Err(WordsFault::BadWord(place));
-        }
-        self.awaited = Some(option);
-        Ok(())
-    }
-
-    // Takes the value of `--at` at a place.
-    fn take_second(&mut self, place: usize, word: &str) -> Result<(), WordsFault>
-        requires { self.old.awaited ≡ None }
-        ensures { TakesWord (take_second (request_given self.old) (number w64 word.now)) place (request_given self.new) result }
-    {
-        let Some(secs) = parse_i64(word) else {
-            return Err(WordsFault::BadWord(place));
-        };
-        self.at = Some(Moment::new(secs, 0));
-        Ok(())
-    }
-
-    // Takes the value at a place of an option that no longer waits.
     fn take_value(
         &mut self,
         option: RequestOption,
         place: usize,
         value: &'a str,
-    ) -> Result<(), WordsFault>
-        requires { self.old.awaited ≡ None }
-        ensures { TakesWord (take_request_value (request_given self.old) option value.now) place (request_given self.new) result }
-    {
+    ) -> Result<(), WordsFault> {
         match option {
             RequestOption::Name => self.name = Some(value),
-            RequestOption::At => return self.take_second(place, value),
+            RequestOption::At => {
+                self.at = Some(parse_moment(value).ok_or(WordsFault::BadWord(place))?)
+            },
             RequestOption::OfProfile(option) => self.profile.take(option, value)?,
         }
         Ok(())
     }
 
-    /// What is asked, where the place after the last word is reached.
-    pub fn finish(self, place: usize) -> Result<RequestWords<'a>, WordsFault>
-        ensures { let given = request_given self.entry in ReadsRequestWords (all_request_words place given) result }
-    {
-        match (self.awaited, self.name) {
-            (None, Some(name)) => Ok(RequestWords {
-                name,
-                at: self.at,
-                profile: self.profile,
-            }),
-            _ => Err(WordsFault::BadWord(place)),
-        }
-    }
-}
-
-impl<'a> TakeWord<'a> for GivenRequest<'a> {
-    ghost use Rattle.signed_stream.specs.RequestWords.{RequestGiven, request_given, request_word};
-
-    ghost Given = { RequestGiven };
-
-    ghost given = { request_given };
-
-    ghost step = { request_word };
-
-    fn take_word(&mut self, place: usize, word: &'a str) -> Result<(), WordsFault> {
-        match self.awaited.take() {
-            Some(option) => self.take_value(option, place, word),
-            None => self.take_option(place, word),
-        }
+    fn take_flag(&mut self, place: usize, _word: &str) -> Result<(), WordsFault> {
+        Err(WordsFault::BadWord(place))
     }
 }
 
@@ -178,7 +140,6 @@ pub fn read_request_words<'a>(
 ) -> Result<RequestWords<'a>, WordsFault>
     ensures { ReadsRequestWords (request_words (map string_bytes words.now)) result }
 {
-    let mut given = GivenRequest::new(alloc);
-    let place = take_words(&mut given, 1, words)?;
+    let (given, place) = read_options(GivenRequest::new(alloc), 1, words)?;
     given.finish(place)
 }

@@ -1,12 +1,11 @@
 //! The words of `watch`.
-ghost use Rattle.std.specs.Prelude.{◌≡◌, None, map};
+ghost use Rattle.std.specs.Prelude.{◌≡◌, map};
 ghost use Rattle.std.specs.String.{string_bytes};
-ghost use Rattle.job_text.specs.Pieces.{taken_from};
-ghost use Rattle.job_text.specs.Words.{TakesWord};
-ghost use Rattle.signed_stream.specs.WatchWords.{ReadsWatch, no_watch_given, stands_in_watch, take_watch_option, take_watch_value, watch_from, watch_given, watch_option, watch_word, watch_words};
+ghost use Rattle.signed_stream.specs.WatchWords.{ReadsWatch, no_watch_given, read_after_watch, watch_given, watch_words};
 
+use crate::command::option_words::{TakeOption, read_options};
 use crate::command::profile::{ProfileOption, ProfileOptions};
-use job_text::{TakeWord, WordsFault, take_words};
+use job_text::WordsFault;
 use sigv4::parts::is_signature;
 use std::alloc::Global;
 
@@ -21,7 +20,7 @@ pub struct WatchWords<'a> {
     pub profile: ProfileOptions<'a>,
 }
 
-/// An option of `watch`, whose value is the next word.
+/// An option of `watch`.
 #[derive(Clone, Copy, Debug)]
 pub enum WatchOption {
     Name,
@@ -29,27 +28,12 @@ pub enum WatchOption {
     OfProfile(ProfileOption),
 }
 
-impl WatchOption {
-    /// The option that a word names.
-    #[tactic(auto, unfolding(crate::specs::WatchWords::watch_option))]
-    pub fn named(word: &str) -> Option<WatchOption>
-        ensures { result ≡ watch_option word.now }
-    {
-        match word {
-            "--name" => Some(WatchOption::Name),
-            "--seed" => Some(WatchOption::Seed),
-            _ => Some(WatchOption::OfProfile(ProfileOption::named(word)?)),
-        }
-    }
-}
-
-/// What the words of `watch` so far gave, and the option that waits for its value.
+/// What the options of `watch` so far gave.
 #[derive(Drop)]
 pub struct GivenWatch<'a> {
     name: Option<&'a str>,
     seed: Option<&'a str>,
     profile: ProfileOptions<'a>,
-    awaited: Option<WatchOption>,
 }
 
 impl<'a> GivenWatch<'a> {
@@ -61,59 +45,15 @@ impl<'a> GivenWatch<'a> {
             name: None,
             seed: None,
             profile: ProfileOptions::new(alloc),
-            awaited: None,
         }
-    }
-
-    // Whether the option stood.
-    fn has(&self, option: WatchOption) -> bool
-        ensures { result ≡ stands_in_watch (watch_given self.now) option }
-    {
-        match option {
-            WatchOption::Name => self.name.is_some(),
-            WatchOption::Seed => self.seed.is_some(),
-            WatchOption::OfProfile(option) => self.profile.has(option),
-        }
-    }
-
-    // Takes the option at a place.
-    fn take_option(&mut self, place: usize, word: &str) -> Result<(), WordsFault>
-        requires { self.old.awaited ≡ None }
-        ensures { TakesWord (take_watch_option (watch_given self.old) (watch_option word.now)) place (watch_given self.new) result }
-    {
-        let option = WatchOption::named(word).ok_or(WordsFault::BadWord(place))?;
-        if self.has(option) {
-            return Err(WordsFault::BadWord(place));
-        }
-        self.awaited = Some(option);
-        Ok(())
-    }
-
-    // Takes the value at a place of an option that no longer waits.
-    fn take_value(
-        &mut self,
-        option: WatchOption,
-        place: usize,
-        value: &'a str,
-    ) -> Result<(), WordsFault>
-        requires { self.old.awaited ≡ None }
-        ensures { TakesWord (take_watch_value (watch_given self.old) option value.now) place (watch_given self.new) result }
-    {
-        match option {
-            WatchOption::Name => self.name = Some(value),
-            WatchOption::Seed if !is_signature(value) => return Err(WordsFault::BadWord(place)),
-            WatchOption::Seed => self.seed = Some(value),
-            WatchOption::OfProfile(option) => self.profile.take(option, value)?,
-        }
-        Ok(())
     }
 
     /// What is asked, where the place after the last word is reached.
     pub fn finish(self, place: usize) -> Result<WatchWords<'a>, WordsFault>
         ensures { let given = watch_given self.entry in ReadsWatch (watch_words place given) result }
     {
-        match (self.awaited, self.name, self.seed) {
-            (None, Some(name), Some(seed)) => Ok(WatchWords {
+        match (self.name, self.seed) {
+            (Some(name), Some(seed)) => Ok(WatchWords {
                 name,
                 seed,
                 profile: self.profile,
@@ -123,20 +63,53 @@ impl<'a> GivenWatch<'a> {
     }
 }
 
-impl<'a> TakeWord<'a> for GivenWatch<'a> {
-    ghost use Rattle.signed_stream.specs.WatchWords.{WatchGiven, watch_given, watch_word};
+impl<'a> TakeOption<'a> for GivenWatch<'a> {
+    ghost use Rattle.std.specs.Prelude.{◌≡◌};
+    ghost use Rattle.signed_stream.specs.WatchWords.{WatchGiven, watch_given, watch_option, watch_rules};
+
+    type Named = WatchOption;
 
     ghost Given = { WatchGiven };
 
     ghost given = { watch_given };
 
-    ghost step = { watch_word };
+    ghost rules = { watch_rules };
 
-    fn take_word(&mut self, place: usize, word: &'a str) -> Result<(), WordsFault> {
-        match self.awaited.take() {
-            Some(option) => self.take_value(option, place, word),
-            None => self.take_option(place, word),
+    fn named(word: &str) -> Option<WatchOption>
+        ensures { result ≡ watch_option word.now }
+    {
+        match word {
+            "--name" => Some(WatchOption::Name),
+            "--seed" => Some(WatchOption::Seed),
+            _ => Some(WatchOption::OfProfile(ProfileOption::named(word)?)),
         }
+    }
+
+    fn stood(&self, option: WatchOption) -> bool {
+        match option {
+            WatchOption::Name => self.name.is_some(),
+            WatchOption::Seed => self.seed.is_some(),
+            WatchOption::OfProfile(option) => self.profile.has(option),
+        }
+    }
+
+    fn take_value(
+        &mut self,
+        option: WatchOption,
+        place: usize,
+        value: &'a str,
+    ) -> Result<(), WordsFault> {
+        match option {
+            WatchOption::Name => self.name = Some(value),
+            WatchOption::Seed if !is_signature(value) => return Err(WordsFault::BadWord(place)),
+            WatchOption::Seed => self.seed = Some(value),
+            WatchOption::OfProfile(option) => self.profile.take(option, value)?,
+        }
+        Ok(())
+    }
+
+    fn take_flag(&mut self, place: usize, _word: &str) -> Result<(), WordsFault> {
+        Err(WordsFault::BadWord(place))
     }
 }
 
@@ -146,9 +119,8 @@ impl<'a> TakeWord<'a> for GivenWatch<'a> {
 ///
 /// The place of the first bad word.
 pub fn read_watch<'a>(alloc: Global, words: &'a [String]) -> Result<WatchWords<'a>, WordsFault>
-    ensures { ReadsWatch (watch_from (taken_from watch_word 2 no_watch_given (map string_bytes words.now))) result }
+    ensures { ReadsWatch (read_after_watch (map string_bytes words.now)) result }
 {
-    let mut given = GivenWatch::new(alloc);
-    let place = take_words(&mut given, 2, words)?;
+    let (given, place) = read_options(GivenWatch::new(alloc), 2, words)?;
     given.finish(place)
 }

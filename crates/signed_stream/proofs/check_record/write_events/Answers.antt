@@ -2,7 +2,7 @@ use Rattle.std.proofs.lemmas.Result.{err_from_is_err_and}
 use Rattle.signed_stream.specs.EventLines.{event_lines}
 use Rattle.signed_stream.specs.CheckRecord.{shown_events}
 use Rattle.signed_stream.specs.Status.{stream_ending}
-use Rattle.signed_stream.proofs.CheckLemmas.{count_halted, count_sent}
+use Rattle.signed_stream.proofs.CheckLemmas.{count_ended_early, count_sent}
 use Rattle.signed_stream.proofs.EventLineLemmas.{last_sent}
 use Rattle.signed_stream.proofs.check_record.write_events.Goals as goal
 
@@ -10,7 +10,7 @@ pub returns-in_err-write_count-clause-sends : goal.returns-in_err-write_count-cl
 returns-in_err-write_count-clause-sends g c =
     let exit = err_from_is_err_and c.from_residual.result c.from_residual.ensures.1 in
     rw (exit.1, exit.2)
-    (count_halted (g.K.ByteSink.held c.args.out.now) (g.K.ByteSink.held c.write_count.new.out) c.args.events.now (stream_ending c.in_err-write_count.field-0.0) c.in_err-write_count.ensures.sends)
+    (count_ended_early (g.K.ByteSink.held c.args.out.now) (g.K.ByteSink.held c.write_count.new.out) c.args.events.now (stream_ending c.in_err-write_count.field-0.0) c.in_err-write_count.ensures.sends)
 
 pub returns-clause-sends : goal.returns-clause-sends
 returns-clause-sends g c =

@@ -4,14 +4,14 @@ use Rattle.smithy_core.proofs.GainLemmas.{gains_whole}
 use Rattle.smithy_core.specs.contracts.outside.frame_source.CalmFramesFrameSource.TheImpl as calm
 use Rattle.aws_auth.specs.contracts.chunk_signer.SigV4MessageSignerSigningSettingsSignChunk.TheImpl as sealing
 use Rattle.aws_chunked.proofs.SoundBodyLemmas.{closed_left}
-use Rattle.signed_stream.proofs.ChunkLemmas.{bytes_gained, bytes_halted}
+use Rattle.signed_stream.proofs.ChunkLemmas.{bytes_gained, bytes_ended_early}
 use Rattle.signed_stream.proofs.show_chunked.send_body.Goals as goal
 
 pub returns-in_err-write_text-clause-sends : goal.returns-in_err-write_text-clause-sends
 returns-in_err-write_text-clause-sends g c =
     let exit = err_from_is_err_and c.from_residual-in_err-write_text.result c.from_residual-in_err-write_text.ensures.1 in
     rw (exit.1, exit.2)
-    (bytes_halted _ _ _ c.in_ok-bytes.bytes _ _ (Unit {0}) (Unit {0}) _ c.in_err-write_text.field-0.0 c.in_ok-bytes.ensures.text.1 c.polls.invariant.left
+    (bytes_ended_early _ _ _ c.in_ok-bytes.bytes _ _ (Unit {0}) (Unit {0}) _ c.in_err-write_text.field-0.0 c.in_ok-bytes.ensures.text.1 c.polls.invariant.left
     (rw c.as_slice.ensures at c.in_err-write_text.ensures.sends))
 
 pub polls-preserved-in_ok-write_text : goal.polls-preserved-in_ok-write_text

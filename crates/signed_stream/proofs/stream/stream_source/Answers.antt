@@ -28,13 +28,13 @@ returns-in_err-options-clause-streams g c =
 pub returns-in-Some-clause-streams : goal.returns-in-Some-clause-streams
 returns-in-Some-clause-streams g c =
     rw c.in-Some.is
-    (fixed_takes fixed.ghosts (λ before moment now gives. gives) (λ taken. Gives g.C.Clock c.args.clock.now taken c.args.clock.now) (given_none g.C.Clock c.args.clock.now) c.new-fixed.result c.send_owned.new.clock c.in-Some.at c.new-fixed.ensures.at
+    (fixed_takes fixed.ghosts (λ before moment now gives. gives) (λ taken. Gives g.C.Clock c.args.clock.now taken c.args.clock.now) (given_none g.C.Clock c.args.clock.now) c.new-fixed.result c.sign_and_send.new.clock c.in-Some.at c.new-fixed.ensures.at
     _ _ _ _ _
-    (words_go (λ taken. Gives fixed.ghosts c.new-fixed.result taken c.send_owned.new.clock) (string_bytes c.args.request.target) (map file_of c.args.source.now.files.items) (string_bytes c.args.source.now.profile)
-    c.args.env.now c.args.words c.in_ok-options.options (job_with c.args.request c.args.events.items) _ _ _ c.in_ok-options.ensures (streams_take _ _ _ _ _ _ _ _ c.send_owned.ensures.streams.streams)))
+    (words_go (λ taken. Gives fixed.ghosts c.new-fixed.result taken c.sign_and_send.new.clock) (string_bytes c.args.request.target) (map file_of c.args.source.now.files.items) (string_bytes c.args.source.now.profile)
+    c.args.env.now c.args.words c.in_ok-options.options (job_with c.args.request c.args.events.items) _ _ _ c.in_ok-options.ensures (streams_take _ _ _ _ _ _ _ _ c.sign_and_send.ensures.streams.streams)))
 
 pub returns-clause-streams : goal.returns-clause-streams
 returns-clause-streams g c =
     rw c.in-None.is
-    (words_go (λ taken. Gives g.C.Clock c.args.clock.now taken c.send_owned-in-None.new.clock) (string_bytes c.args.request.target) (map file_of c.args.source.now.files.items) (string_bytes c.args.source.now.profile)
-    c.args.env.now c.args.words c.in_ok-options.options (job_with c.args.request c.args.events.items) _ _ _ c.in_ok-options.ensures (streams_take _ _ _ _ _ _ _ _ c.send_owned-in-None.ensures.streams.streams))
+    (words_go (λ taken. Gives g.C.Clock c.args.clock.now taken c.sign_and_send-in-None.new.clock) (string_bytes c.args.request.target) (map file_of c.args.source.now.files.items) (string_bytes c.args.source.now.profile)
+    c.args.env.now c.args.words c.in_ok-options.options (job_with c.args.request c.args.events.items) _ _ _ c.in_ok-options.ensures (streams_take _ _ _ _ _ _ _ _ c.sign_and_send-in-None.ensures.streams.streams))
