@@ -1,14 +1,12 @@
 //! An upload in signed chunks.
-ghost use Rattle.std.specs.Prelude.{◌≡◌, ◌++◌, ◌⊎◌, None, Some, Result, IfOk, OnOk, MatchResult, length};
-ghost use Rattle.std.specs.List.{flat_map};
-ghost use Rattle.aws_chunked.specs.Text.{crlf, head_text, last_line, trailer_line};
+ghost use Rattle.std.specs.Prelude.{◌≡◌, None, Some, Result, length};
+ghost use Rattle.aws_chunked.specs.Text.{head_text};
 ghost use Rattle.sigv4.specs.Chunk.{chunk_signature, trailer_signature};
 ghost use Rattle.sigv4.specs.EventStream.{unsignable};
 ghost use Rattle.sigv4.specs.Params.{signer_of, v4_identity, v4_time};
 ghost use Rattle.chunk_watch.specs.Trailers.{trailers_text};
 ghost use Rattle.firuvaik_c.specs.Answers.{LendsSigned};
 ghost use Rattle.firuvaik_c.specs.Chunks.{GivesChunk, GivesTrailers, MakesText};
-ghost use Rattle.firuvaik_c.specs.Faults.{no_memory};
 ghost use Rattle.firuvaik_c.specs.declared.answer.Made.{Made};
 ghost use Rattle.firuvaik_c.specs.declared.fault.Fault.{Fault};
 
@@ -18,11 +16,11 @@ use crate::lent::{Field, Signer};
 use crate::link::{nameless, scope_texts};
 use crate::sign::code_of;
 use crate::texts::{headers_of, test_years, text_of};
-use aws_chunked::X_AMZ_TRAILER_SIGNATURE;
+use aws_chunked::parts::{head_text, last_lines};
 use bytes::Bytes;
 use sigv4::parts::test_headers;
 use sigv4::{SigningError, v4};
-use smithy_core::{Headers, Mem, Moment};
+use smithy_core::{Headers, Moment};
 use std::alloc::Global;
 
 /// Writes the line before the next chunk of an upload, with the chunk's signature over the one before it. No data end the upload.
@@ -83,19 +81,8 @@ fn signed_chunk(
     let bytes = Bytes::copy_from_slice(alloc, chunk)?;
     let signed = v4::sign_chunk(alloc, &bytes, before, params)?;
     let signature = code_of(&signed);
-    let text = chunk_head(alloc, chunk.len(), &signature)?;
+    let text = head_text(alloc, chunk.len(), Some(signed.signature()))?;
     Ok(Made { text, signature })
-}
-
-// The line before a chunk of this length.
-fn chunk_head(alloc: Global, length: usize, signature: &[u8; 64]) -> Mem<Vec<u8>>
-    ensures { IfOk result (λ text. text.items ≡ head_text length (Some signature.now)) }
-{
-    let mut text = format!(in alloc; "{length:X}")?.into_bytes();
-    text.extend_from_slice(b";chunk-signature=")?;
-    text.extend_from_slice(signature.as_slice())?;
-    text.extend_from_slice(b"\r\n")?;
-    Ok(text)
 }
 
 /// Writes the trailers of an upload behind its empty chunk, and the line of their signature, with the empty line that ends it.
@@ -157,44 +144,6 @@ fn signed_trailers(
 {
     let signed = v4::sign_trailer(alloc, headers, before, params)?;
     let signature = code_of(&signed);
-    let text = trailer_lines(alloc, headers, &signature)?;
+    let text = last_lines(alloc, Some(headers), Some(signed.signature()))?;
     Ok(Made { text, signature })
-}
-
-// The lines of trailers, that of their signature, and an empty line.
-fn trailer_lines(alloc: Global, headers: &Headers, signature: &[u8; 64]) -> Mem<Vec<u8>>
-    ensures { IfOk result (λ text. text.items ≡ trailers_text headers.now signature.now) }
-{
-    let mut text = Vec::new(alloc);
-    push_lines(&mut text, headers)?;
-    push_last(&mut text, signature)?;
-    text.extend_from_slice(b"\r\n")?;
-    Ok(text)
-}
-
-// Appends the line of the trailers' signature.
-fn push_last(text: &mut Vec<u8>, signature: &[u8; 64]) -> Mem<()>
-    ensures { OnOk result (text.new.items ≡ text.old.items ++ last_line (Some signature.now)) }
-{
-    push_trailer(text, X_AMZ_TRAILER_SIGNATURE, signature.as_slice())
-}
-
-// Appends the lines of the trailers.
-fn push_lines(text: &mut Vec<u8>, headers: &Headers) -> Mem<()>
-    ensures { OnOk result (text.new.items ≡ text.old.items ++ flat_map trailer_line headers.now) }
-{
-    for (name, value) in headers.iter() {
-        push_trailer(text, name, value.as_bytes())?;
-    }
-    Ok(())
-}
-
-// Appends `name:value` as a line.
-fn push_trailer(text: &mut Vec<u8>, name: &str, value: &[u8]) -> Mem<()>
-    ensures { OnOk result (text.new.items ≡ text.old.items ++ trailer_line (name.now, value.now)) }
-{
-    text.extend_from_slice(name.as_bytes())?;
-    text.extend_from_slice(b":")?;
-    text.extend_from_slice(value)?;
-    text.extend_from_slice(b"\r\n")
 }
