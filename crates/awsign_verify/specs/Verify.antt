@@ -74,23 +74,23 @@ whole_second secs = record { secs = secs; nanos = 0 }
 unfoldable pub second_text : ℤ → List ℕ
 second_text secs = if is_in_years (whole_second secs) then formatted DateTime (whole_second secs) else signed_decimal secs
 
--- a line: what is told, and its value
-abbrev pub told_line : List ℕ → List ℕ → List ℕ
-told_line name value = line (name ++ (codes " " ++ value))
+-- a line: a name, and its value
+abbrev pub named_line : List ℕ → List ℕ → List ℕ
+named_line name value = line (name ++ (codes " " ++ value))
 
 -- who signed, for what, and where that stands
 unfoldable pub who_lines : SignsFor → Admitted → List ℕ
 who_lines signer admitted =
-    told_line (codes "key") (string_bytes admitted.key_id) ++ (told_line (codes "region") signer.region
-    ++ (told_line (codes "service") signer.service ++ told_line (codes "place") (place_word admitted.place)))
+    named_line (codes "key") (string_bytes admitted.key_id) ++ (named_line (codes "region") signer.region
+    ++ (named_line (codes "service") signer.service ++ named_line (codes "place") (place_word admitted.place)))
 
 -- when it was signed and until when it is good, the signed headers, and the payload
 unfoldable pub what_lines : Admitted → List ℕ
 what_lines admitted =
-    told_line (codes "signed") (second_text admitted.at.secs) ++ (told_line (codes "until") (second_text admitted.until)
-    ++ (told_line (codes "headers") (string_bytes admitted.names) ++ told_line (codes "payload") (payload_words admitted.payload)))
+    named_line (codes "signed") (second_text admitted.at.secs) ++ (named_line (codes "until") (second_text admitted.until)
+    ++ (named_line (codes "headers") (string_bytes admitted.names) ++ named_line (codes "payload") (payload_words admitted.payload)))
 
--- what is told of a request that a service lets in
+-- what is printed of a request that a service lets in
 abbrev pub verified_text : SignsFor → Admitted → List ℕ
 verified_text signer admitted = who_lines signer admitted ++ what_lines admitted
 
@@ -110,7 +110,7 @@ abbrev pub signer_verify_fault : Fault → VerifyFault
 signer_verify_fault run.NoMemory = NoMemory
 signer_verify_fault fault = Refused fault
 
--- what is told of a request that the service of a signer lets in, or the first of its tests that it meets; or memory ran out
+-- what is printed of a request that the service of a signer lets in, or the first of its tests that it meets; or memory ran out
 abbrev pub Judges : OptionValues → SignsFor → HttpRequest → List ℕ → Instant → Result (Vec ℕ) VerifyFault → Type 0
 Judges options signer request body at (Ok text) =
     (admitted : Admitted) × AnswersDoor (verify_input options signer request body at) (Ok admitted) × (text.items ≡ verified_text signer admitted)

@@ -9,7 +9,7 @@ ghost use Rattle.awsign_run.specs.Run.{TakesAskedMoment, asked_moment};
 ghost use Rattle.awsign_verify.specs.Verify.{Judges, JudgesBy, JudgesFor, request_host, verify_input, verify_signer};
 
 use crate::fault::VerifyFault;
-use crate::told::verified_text;
+use crate::lines::verified_text;
 use awsign_run::{Chosen, is_s3, moment_asked, moment_of, signer_for, url_host, usual_settings};
 use env_config::Source;
 use request_door::{Admitted, DoorFault, KeyList, Limits, admit};
@@ -71,7 +71,7 @@ fn request_host(request: &HttpRequest) -> &str
     }
 }
 
-// What is told of a request at the service of a signer.
+// What is printed of a request at the service of a signer.
 fn judge_for(
     alloc: Global,
     options: &Env,
