@@ -78,7 +78,7 @@ fn said(rt: &HostRuntime, words: &[String], ended: &Ended) -> u8 {
             status.code()
         }
         Ended::Verify(status) => {
-            say_verify(rt.alloc(), status, &mut err);
+            say_verify(rt.alloc(), words, status, &mut err);
             status.code()
         }
         Ended::Chunk(status) => {

@@ -6,7 +6,6 @@
 //! the output is as it was (`specs/VerifyRun.antt`, and below it `specs/Verify.antt` and `specs/Message.antt`).
 #![tactic(auto)]
 
-mod fault;
 mod judge;
 mod lines;
 mod message;
@@ -14,7 +13,6 @@ mod run;
 mod saying;
 mod status;
 
-pub use crate::fault::VerifyFault;
 pub use crate::lines::verified_text;
 pub use crate::message::{HeadDraft, message_body, read_message};
 pub use crate::run::{Received, run_verify};
