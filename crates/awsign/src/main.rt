@@ -86,7 +86,7 @@ fn said(rt: &HostRuntime, words: &[String], ended: &Ended) -> u8 {
             status.code()
         }
         Ended::Events(status) => {
-            say_events(rt.alloc(), status, &mut err);
+            say_events(rt.alloc(), words, status, &mut err);
             status.code()
         }
     }
