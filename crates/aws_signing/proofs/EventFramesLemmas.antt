@@ -39,16 +39,16 @@ framed_more start now new all rest message at frames framed so (fit, is, goes) =
     link : Parts
     link = next_link now (frame message) at
 
--- what is told where there is no frame
-tells : (start : EventsState) (all : List Parts) (at : Instant) (error : SigningError) (fault : AwsSigningError)
+-- what is answered where there is no frame
+answers : (start : EventsState) (all : List Parts) (at : Instant) (error : SigningError) (fault : AwsSigningError)
     → (stream_refusal start all at ≡ Some error) ⊎ (error ≡ NoMemory) → fault ≡ of_signing error → FramesAll start all at (Err fault)
-tells start all at error fault (inl refused) is = inl (error, refused, is)
-tells start all at error fault (inr want) is = inr (is ∙ ap of_signing want)
+answers start all at error fault (inl refused) is = inl (error, refused, is)
+answers start all at error fault (inr want) is = inr (is ∙ ap of_signing want)
 
 -- the next message has none
 pub unframed_more : (start now new : EventsState) (all rest : List Parts) (message : Parts) (at : Instant) (frames : List (List ℕ)) (fault : AwsSigningError)
     → IsChainedSoFar start now all (message ∷ rest) at frames → FramesEvent now message at (Err fault) new → FramesAll start all at (Err fault)
-unframed_more start now new all rest message at frames fault so (error, (why, goes), is) = tells start all at error fault (by why) is
+unframed_more start now new all rest message at frames fault so (error, (why, goes), is) = answers start all at error fault (by why) is
   where
     by : (frame_refusal (unframed message) now (frame message) at ≡ Some error) ⊎ (error ≡ NoMemory) → (stream_refusal start all at ≡ Some error) ⊎ (error ≡ NoMemory)
     by (inl refused) = inl (rw refused at so.refusal)
@@ -63,7 +63,7 @@ framed_end start now all at frames framed so (fit, is, goes) = (so.refusal ∙ f
 -- the end has none
 pub unframed_end : (start now : EventsState) (all : List Parts) (at : Instant) (frames : List (List ℕ)) (fault : AwsSigningError)
     → IsChainedSoFar start now all [] at frames → ClosesEvents now at (Err fault) → FramesAll start all at (Err fault)
-unframed_end start now all at frames fault so (error, (why, goes), is) = tells start all at error fault (by why) is
+unframed_end start now all at frames fault so (error, (why, goes), is) = answers start all at error fault (by why) is
   where
     by : (frame_refusal None now [] at ≡ Some error) ⊎ (error ≡ NoMemory) → (stream_refusal start all at ≡ Some error) ⊎ (error ≡ NoMemory)
     by (inl refused) = inl (so.refusal ∙ refused)

@@ -9,15 +9,15 @@ use Rattle.smithy_http.specs.Target.{Target, target_of}
 use Rattle.sigv4.specs.Query.{Pair, decoded}
 use Rattle.sigv4.specs.Request.{Case}
 use Rattle.presign_check.proofs.SignatureLemmas.{one_target, spelled_once}
-use Rattle.aws_signing.specs.Presigning.{IsPresignedAlready, IsPresignedBy, TellsPresigned, has_signature_pair}
+use Rattle.aws_signing.specs.Presigning.{IsPresignedAlready, IsPresignedBy, DecidesPresigned, has_signature_pair}
 use Rattle.sigv4.specs.declared.error.SigningError.{SigningError}
 use Rattle.aws_signing.specs.SigningBy.{IsSignedRequestBy, RefusesBy, SigningState, signer_case}
 
--- the pairs of the query that a text spells tell whether it is presigned
-pub told_presigned : (text : List ℕ) (uri : Uri) (pairs : List Pair) → SpellsTarget text uri → pairs ≡ decoded (target_of uri) → TellsPresigned text (has_signature_pair pairs)
-told_presigned text uri pairs spells are = by (has_signature_pair pairs) (ap has_signature_pair are)
+-- the pairs of the query that a text spells decide whether it is presigned
+pub presigned_decided : (text : List ℕ) (uri : Uri) (pairs : List Pair) → SpellsTarget text uri → pairs ≡ decoded (target_of uri) → DecidesPresigned text (has_signature_pair pairs)
+presigned_decided text uri pairs spells are = by (has_signature_pair pairs) (ap has_signature_pair are)
   where
-    by : (is : Bool) → is ≡ has_signature_pair (decoded (target_of uri)) → TellsPresigned text is
+    by : (is : Bool) → is ≡ has_signature_pair (decoded (target_of uri)) → DecidesPresigned text is
     by true same = (uri, spells, sym same)
     by false same = λ presigned.
         let one : target_of presigned.0 ≡ target_of uri = one_target text presigned.0 uri presigned.1.0 spells in

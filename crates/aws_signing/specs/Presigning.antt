@@ -70,9 +70,9 @@ Presigns old method text seconds at new (Err fault) =
 -- ## On the way
 
 -- whether a text is that of a presigned target
-abbrev pub TellsPresigned : List ℕ → Bool → Type 0
-TellsPresigned text true = IsPresignedAlready text
-TellsPresigned text false = IsPresignedAlready text → ⊥
+abbrev pub DecidesPresigned : List ℕ → Bool → Type 0
+DecidesPresigned text true = IsPresignedAlready text
+DecidesPresigned text false = IsPresignedAlready text → ⊥
 
 -- the seconds are fit, or they aren't
 abbrev pub TestsSeconds : ℕ → Result (Unit {0}) AwsSigningError → Type 0

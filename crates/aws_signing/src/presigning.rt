@@ -2,7 +2,7 @@ ghost use Rattle.std.specs.Prelude.{◌≡◌, [], IfOk, option_copied, string_b
 ghost use Rattle.smithy_core.specs.TextPairs.{text_pairs};
 ghost use Rattle.sigv4.specs.declared.settings.SignatureLocation.TheVariants.{QueryParams};
 ghost use Rattle.request_door.specs.DoorPayloads.{usual_form, usual_payload};
-ghost use Rattle.aws_signing.specs.Presigning.{Presigns, PresignsCase, TellsPresigned, TestsPresigning, TestsSeconds, has_signature_pair, is_signature_key, presigned_case};
+ghost use Rattle.aws_signing.specs.Presigning.{Presigns, PresignsCase, DecidesPresigned, TestsPresigning, TestsSeconds, has_signature_pair, is_signature_key, presigned_case};
 ghost use Rattle.aws_signing.specs.SigningBy.{given_payload, signer_kept};
 
 use crate::fault::AwsSigningError;
@@ -95,7 +95,7 @@ fn test_seconds(seconds: u64) -> Result<(), AwsSigningError>
 
 /// Whether a text is that of a target whose query has a signature's parameter, `X-Amz-Signature`.
 pub fn is_presigned(alloc: Global, text: &str) -> Mem<bool>
-    ensures { IfOk result (TellsPresigned text.now) }
+    ensures { IfOk result (DecidesPresigned text.now) }
 {
     match read_target(alloc, text) {
         Ok(uri) => Ok(has_signature_pair(query_pairs(alloc, &uri)?.as_slice())),

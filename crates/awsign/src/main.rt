@@ -9,7 +9,7 @@ use awsign_chunk::{ChunkStatus, ChunkedUpload, held_data, make_upload, say_chunk
 use awsign_events::{
     EventsStatus, decode_events, encode_events, read_hex, say_events, verify_events,
 };
-use awsign_run::{ProgressSource, Status, run_signing, say, tell_service, url_host, write_text};
+use awsign_run::{ProgressSource, Status, print_service, run_signing, say, url_host, write_text};
 use awsign_settings::run_settings;
 use awsign_verify::{VerifyStatus, run_verify, say_verify};
 use awsign_words::{Asked, AskedCommand, EventsAction, EventsAsked, VerifyAsked, read_command};
@@ -62,7 +62,7 @@ fn answer(rt: &HostRuntime, words: &[String], env: &Env, out: &mut StdSink<Stdou
     match read_command(rt.alloc(), words) {
         Ok(AskedCommand::Signing(asked)) => Ended::Run(sign(rt, asked, env, out)),
         Ok(AskedCommand::Verifying(asked)) => Ended::Verify(verify(rt, &asked, env, out)),
-        Ok(AskedCommand::Telling(options)) => Ended::Run(settings(rt, &options, env, out)),
+        Ok(AskedCommand::Showing(options)) => Ended::Run(settings(rt, &options, env, out)),
         Ok(AskedCommand::Chunking(asked)) => Ended::Chunk(chunk(rt, asked, env, out)),
         Ok(AskedCommand::Streaming(asked)) => Ended::Events(stream(rt, &asked, env, out)),
         Err(fault) => Ended::Run(Status::from(fault)),
@@ -78,7 +78,7 @@ fn said(rt: &HostRuntime, words: &[String], ended: &Ended) -> u8 {
             status.code()
         }
         Ended::Verify(status) => {
-            say_verify(rt.alloc(), status, &mut err);
+            say_verify(rt.alloc(), words, status, &mut err);
             status.code()
         }
         Ended::Chunk(status) => {
@@ -86,7 +86,7 @@ fn said(rt: &HostRuntime, words: &[String], ended: &Ended) -> u8 {
             status.code()
         }
         Ended::Events(status) => {
-            say_events(rt.alloc(), status, &mut err);
+            say_events(rt.alloc(), words, status, &mut err);
             status.code()
         }
     }
@@ -99,7 +99,7 @@ fn sign(rt: &HostRuntime, asked: Asked<'_>, env: &Env, out: &mut StdSink<Stdout>
         Err(_) => return Status::NoMemory,
     };
     let asked = asked.with_url(url.as_str());
-    tell_host(rt, &asked);
+    print_guess(rt, &asked);
     match asked.options.get("--data") {
         None => {
             let mut nothing = CalmSource::new(Vec::new(rt.alloc()));
@@ -114,9 +114,9 @@ fn sign(rt: &HostRuntime, asked: Asked<'_>, env: &Env, out: &mut StdSink<Stdout>
 }
 
 // Says which service the host names, where no option does.
-fn tell_host(rt: &HostRuntime, asked: &Asked<'_>) {
+fn print_guess(rt: &HostRuntime, asked: &Asked<'_>) {
     let mut err = StdSink::new(rt.stderr());
-    tell_service(rt.alloc(), &asked.options, url_host(asked.url), &mut err);
+    print_service(rt.alloc(), &asked.options, url_host(asked.url), &mut err);
 }
 
 // Signs over the data of a source, and shows on a terminal how much of it is read.
@@ -161,7 +161,7 @@ fn chunk(rt: &HostRuntime, asked: Asked<'_>, env: &Env, out: &mut StdSink<Stdout
         Err(_) => return ChunkStatus::Ended(Status::NoMemory),
     };
     let asked = asked.with_url(url.as_str());
-    tell_host(rt, &asked);
+    print_guess(rt, &asked);
     match asked.options.get("--data") {
         None | Some("-") => chunk_held(rt, &asked, env, StdSource::new(rt.reader()), out),
         Some(path) => match File::open(rt, path) {
@@ -171,7 +171,7 @@ fn chunk(rt: &HostRuntime, asked: Asked<'_>, env: &Env, out: &mut StdSink<Stdout
     }
 }
 
-// Writes the data of a file in chunks, while it is read where its length is told.
+// Writes the data of a file in chunks, while it is read where its length is known.
 fn chunk_file(
     rt: &HostRuntime,
     asked: &Asked<'_>,
@@ -179,27 +179,27 @@ fn chunk_file(
     file: File,
     out: &mut StdSink<Stdout>,
 ) -> ChunkStatus {
-    match told_length(rt, &file, asked.options.get("--out").unwrap_or("")) {
+    match known_length(rt, &file, asked.options.get("--out").unwrap_or("")) {
         Some(length) => chunk_shown(rt, asked, env, StdSource::new(file), length, out),
         None => chunk_held(rt, asked, env, StdSource::new(file), out),
     }
 }
 
-// How long the data of a file is, where that is told before it is read. A pipe tells nothing, and a file that the system makes while it
-// is read tells 0. Nor can it be read while the body takes its place.
-fn told_length(rt: &HostRuntime, file: &File, out: &str) -> Option<u64> {
-    let told = file.metadata().ok()?;
-    if told.is_file() && told.len() > 0 && !is_at(rt, &told, out) {
-        Some(told.len())
+// How long the data of a file is, where that is known before it is read. A pipe has no length, and a file that the system makes while it
+// is read has 0. Nor can it be read while the body takes its place.
+fn known_length(rt: &HostRuntime, file: &File, out: &str) -> Option<u64> {
+    let found = file.metadata().ok()?;
+    if found.is_file() && found.len() > 0 && !is_at(rt, &found, out) {
+        Some(found.len())
     } else {
         None
     }
 }
 
 // Whether a path leads to this file.
-fn is_at(rt: &HostRuntime, told: &Metadata, path: &str) -> bool {
+fn is_at(rt: &HostRuntime, file: &Metadata, path: &str) -> bool {
     match metadata(rt, path) {
-        Ok(other) => other.dev() == told.dev() && other.ino() == told.ino(),
+        Ok(other) => other.dev() == file.dev() && other.ino() == file.ino(),
         Err(_) => false,
     }
 }
@@ -221,7 +221,7 @@ fn chunk_shown<S: ByteSource + Drop>(
     chunk_over(rt, asked, env, &mut data, length, out)
 }
 
-// Writes the data of a source that doesn't tell its length in chunks.
+// Writes the data of a source whose length isn't known in chunks.
 fn chunk_held<S: ByteSource + Drop>(
     rt: &HostRuntime,
     asked: &Asked<'_>,

@@ -17,11 +17,12 @@ use Rattle.smithy_core.specs.declared.outside.read_all.ReadFault.{ReadFault}
 use Rattle.smithy_core.specs.declared.outside.read_all.ReadFault.TheVariants as read
 use Rattle.smithy_core.proofs.GainLemmas.{prefix_from_proper}
 use Rattle.eventstream.specs.Frame.{frame}
+use Rattle.awsign_run.specs.declared.status.Status.TheVariants.{Done, NoMemory, OutputFault}
 use Rattle.awsign_events.specs.Encode.{EncodesAll, EncodesInput, EncodesMessages, EncodesSpelled, MakesFrame, SpellsMessages, WritesEncoded, events_behind, framed_text, is_framed, spelled_messages, without_request, written_frame}
 use Rattle.awsign_events.specs.EventsStatus.{line_status, read_events_status}
 use Rattle.awsign_events.specs.HexInput.{GivesUnhexed, LacksInput, Unhexes, most_input, unhexed}
 use Rattle.awsign_events.specs.declared.status.EventsStatus.{EventsStatus}
-use Rattle.awsign_events.specs.declared.status.EventsStatus.TheVariants.{Done, Unframed, OutputFault, NoMemory}
+use Rattle.awsign_events.specs.declared.status.EventsStatus.TheVariants.{Ended, Unframed}
 
 module _ (messages : List Parts) (i : ℕ) (message : Parts) (within : i < length messages) (is : message ≡ get_or messages i message) where
   -- one message more
@@ -50,11 +51,11 @@ module _ (is_hex : Bool) (messages : List Parts) (i : ℕ) (message : Parts) (wi
       → EncodesMessages is_hex messages (Err status)
   stops_at place (Unframed at error) placed framed stops =
       (take i messages, message, drop (i + 1) messages, cut_at messages i message within is, framed, stops.0 ∙ placed ∙ ap (λ (n : ℕ). n + 1) (sym (length-take-le i messages (omega (arith, within)))), stops.1)
-  stops_at place NoMemory placed framed stops = tt
+  stops_at place (Ended NoMemory) placed framed stops = tt
   stops_at place other placed framed stops = absurd stops
 
 -- memory may always run out
-spelled_without_memory : (is_hex : Bool) (spelled : Result (List Parts) ℕ) → EncodesSpelled is_hex spelled (Err NoMemory)
+spelled_without_memory : (is_hex : Bool) (spelled : Result (List Parts) ℕ) → EncodesSpelled is_hex spelled (Err (Ended NoMemory))
 spelled_without_memory is_hex (Ok messages) = tt
 spelled_without_memory is_hex (Err place) = tt
 
@@ -81,22 +82,22 @@ input_lacks left read.NoMemory longer = tt
 
 -- nothing is written of what isn't encoded
 pub nothing_written : (is_hex : Bool) (left held : Option (List ℕ)) (status : EventsStatus) → EncodesAll is_hex left (Err status) → EncodesInput is_hex left status held held
-nothing_written is_hex left held Done all = absurd (by_all all)
+nothing_written is_hex left held (Ended Done) all = absurd (by_all all)
   where
-    by_spelled : (spelled : Result (List Parts) ℕ) → EncodesSpelled is_hex spelled (Err Done) → ⊥
+    by_spelled : (spelled : Result (List Parts) ℕ) → EncodesSpelled is_hex spelled (Err (Ended Done)) → ⊥
     by_spelled (Ok messages) is = is
     by_spelled (Err place) is = is
 
-    by_all : EncodesAll is_hex left (Err Done) → ⊥
+    by_all : EncodesAll is_hex left (Err (Ended Done)) → ⊥
     by_all (inl read) = by_spelled (spelled_messages read.0) read.2
     by_all (inr lacks) = lacks
-nothing_written is_hex left held OutputFault all = absurd (by_all all)
+nothing_written is_hex left held (Ended OutputFault) all = absurd (by_all all)
   where
-    by_spelled : (spelled : Result (List Parts) ℕ) → EncodesSpelled is_hex spelled (Err OutputFault) → ⊥
+    by_spelled : (spelled : Result (List Parts) ℕ) → EncodesSpelled is_hex spelled (Err (Ended OutputFault)) → ⊥
     by_spelled (Ok messages) is = is
     by_spelled (Err place) is = is
 
-    by_all : EncodesAll is_hex left (Err OutputFault) → ⊥
+    by_all : EncodesAll is_hex left (Err (Ended OutputFault)) → ⊥
     by_all (inl read) = by_spelled (spelled_messages read.0) read.2
     by_all (inr lacks) = lacks
 nothing_written is_hex left held other all = inl (all, refl)
@@ -104,7 +105,7 @@ nothing_written is_hex left held other all = inl (all, refl)
 -- what is encoded is written
 pub encoded_written : (is_hex : Bool) (left before now : Option (List ℕ)) (text : Vec ℕ) (status : EventsStatus) → EncodesAll is_hex left (Ok text)
     → WritesEncoded text.items status before now → EncodesInput is_hex left status before now
-encoded_written is_hex left before now text Done all wrote = (text, all, wrote)
-encoded_written is_hex left before now text OutputFault all wrote = (text, all, prefix_from_proper before now text.items wrote)
-encoded_written is_hex left before now text NoMemory all wrote = inr (refl, (text, all, prefix_from_proper before now text.items wrote))
+encoded_written is_hex left before now text (Ended Done) all wrote = (text, all, wrote)
+encoded_written is_hex left before now text (Ended OutputFault) all wrote = (text, all, prefix_from_proper before now text.items wrote)
+encoded_written is_hex left before now text (Ended NoMemory) all wrote = inr (refl, (text, all, prefix_from_proper before now text.items wrote))
 encoded_written is_hex left before now text other all wrote = absurd wrote

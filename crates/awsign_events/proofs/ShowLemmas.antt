@@ -17,11 +17,12 @@ use Rattle.eventstream.specs.declared.error.ErrorKind.TheVariants as kind
 use Rattle.eventstream.proofs.FrontLemmas.{first_short}
 use Rattle.eventstream.proofs.ReadingLemmas.{begin_join, begin_stays, shorter}
 use Rattle.awsign_words.specs.declared.events.EventForm.{EventForm}
+use Rattle.awsign_run.specs.declared.status.Status.TheVariants.{NoMemory, OutputFault}
 use Rattle.awsign_events.specs.EventText.{is_spelled, message_text, message_texts}
 use Rattle.awsign_events.specs.Decode.{EndsDecoding, Shows, ShowsPart, ShowsUpTo, StopsDecoding, WaitsUnfinished, WritesMessage, wrong_frame, wrong_frame_of}
 use Rattle.awsign_events.specs.declared.decode.Frames.{Frames}
 use Rattle.awsign_events.specs.declared.status.EventsStatus.{EventsStatus}
-use Rattle.awsign_events.specs.declared.status.EventsStatus.TheVariants.{WrongFrame, Unspelled, OutputFault, NoMemory}
+use Rattle.awsign_events.specs.declared.status.EventsStatus.TheVariants.{Ended, Unspelled, WrongFrame}
 
 -- nothing is shown of no bytes
 pub shows_none : (form : EventForm) (held : Option (List ℕ)) → Shows form [] [] 1 held held
@@ -134,8 +135,8 @@ pub stops_ends : (form : EventForm) (bytes : List ℕ) (left : Option (List ℕ)
     → EndsDecoding form bytes left status before now
 stops_ends form bytes left (WrongFrame place error) before now stops = stops
 stops_ends form bytes left (Unspelled place) before now stops = stops
-stops_ends form bytes left OutputFault before now stops = stops
-stops_ends form bytes left NoMemory before now stops = stops
+stops_ends form bytes left (Ended OutputFault) before now stops = stops
+stops_ends form bytes left (Ended NoMemory) before now stops = stops
 stops_ends form bytes left other before now stops = absurd stops
 
 -- how a message that isn't written stops decoding
@@ -145,10 +146,10 @@ pub unwritten_stops : (form : EventForm) (taken : List ℕ) (frames : Frames) (f
 unwritten_stops form taken frames first before now message others (Unspelled at) shown found writes =
     let there : Shows form taken frames.waiting.bytes at first before = rw writes.1 shown in
     (frames.waiting.bytes, rw writes.2 there, message, others, found, writes.0)
-unwritten_stops form taken frames first before now message others OutputFault shown found writes =
+unwritten_stops form taken frames first before now message others (Ended OutputFault) shown found writes =
     shows_one_part form taken frames.waiting.bytes frames.place first before shown message others found writes.0 now writes.1
-unwritten_stops form taken frames first before now message others NoMemory shown found (inl same) = rw same (shows_part form taken frames.waiting.bytes frames.place first before shown)
-unwritten_stops form taken frames first before now message others NoMemory shown found (inr writes) =
+unwritten_stops form taken frames first before now message others (Ended NoMemory) shown found (inl same) = rw same (shows_part form taken frames.waiting.bytes frames.place first before shown)
+unwritten_stops form taken frames first before now message others (Ended NoMemory) shown found (inr writes) =
     shows_one_part form taken frames.waiting.bytes frames.place first before shown message others found writes.0 now writes.1
 unwritten_stops form taken frames first before now message others status shown found writes = absurd writes
 

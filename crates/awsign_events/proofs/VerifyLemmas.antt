@@ -20,14 +20,16 @@ use Rattle.awsign_words.specs.Words.{OptionValues}
 use Rattle.awsign_words.specs.declared.events.EventForm.{EventForm}
 use Rattle.awsign_run.specs.Chosen.{IsFaultOf, SignRefusal, SignsFor, refusal_of}
 use Rattle.awsign_run.specs.Run.{LoadsAsked}
+use Rattle.awsign_run.specs.Status.{fault_status, load_status}
 use Rattle.awsign_run.specs.declared.fault.Fault.{Fault}
 use Rattle.awsign_run.specs.declared.fault.Fault.TheVariants as run
+use Rattle.awsign_run.specs.declared.status.Status.TheVariants.{Done, NoMemory, OutputFault}
 use Rattle.awsign_events.specs.Decode.{WritesMessage}
 use Rattle.awsign_events.specs.EventText.{is_spelled, message_text}
-use Rattle.awsign_events.specs.EventsStatus.{chain_status, load_events_status, signer_events_status}
+use Rattle.awsign_events.specs.EventsStatus.{chain_status}
 use Rattle.awsign_events.specs.VerifyEvents.{EndsVerifying, IsNewVerifier, IsVerified, LacksFiles, PrintsEvents, PrintsFront, PrintsUpTo, StopsPrinting, StopsVerifying, VerifiesBy, VerifiesChain}
 use Rattle.awsign_events.specs.declared.status.EventsStatus.{EventsStatus}
-use Rattle.awsign_events.specs.declared.status.EventsStatus.TheVariants.{Done, Unverified, Unspelled, InputFault, OutputFault, NoMemory}
+use Rattle.awsign_events.specs.declared.status.EventsStatus.TheVariants.{Ended, InputFault, Unspelled, Unverified}
 use Rattle.awsign_events.specs.declared.verify.Verifier.{Verifier}
 use Rattle.awsign_events.proofs.EncodeLemmas.{cut_at, one_taken}
 use Rattle.awsign_events.proofs.ShowLemmas.{gains_more, gains_part, next_place, spelled_more}
@@ -78,9 +80,9 @@ module _ (form : EventForm) (events : List Parts) (event : Parts) (place : ℕ) 
       unspelled = writes.0;
       placed = writes.1 ∙ so_far.1;
     }
-    prints_stop OutputFault writes = prints_part writes
-    prints_stop NoMemory (inl same) = rw (cut, same) (prints_front form events (event ∷ others) a b so_far.0)
-    prints_stop NoMemory (inr writes) = prints_part writes
+    prints_stop (Ended OutputFault) writes = prints_part writes
+    prints_stop (Ended NoMemory) (inl same) = rw (cut, same) (prints_front form events (event ∷ others) a b so_far.0)
+    prints_stop (Ended NoMemory) (inr writes) = prints_part writes
     prints_stop other writes = absurd writes
 
 module _ (first events : List Parts) (i : ℕ) (event : Parts) (within : i < length events) (is : event ≡ get_or events i event) where
@@ -104,14 +106,14 @@ stops_among form events others (Unspelled place) before now stops = record {
   unspelled = stops.unspelled;
   placed = stops.placed;
 }
-stops_among form events others OutputFault before now stops = record {
+stops_among form events others (Ended OutputFault) before now stops = record {
   first = stops.first;
   others = stops.others ++ others;
   cut = ap (λ (all : List Parts). all ++ others) stops.cut ∙ append_assoc stops.first stops.others others;
   spelled = stops.spelled;
   gains = stops.gains;
 }
-stops_among form events others NoMemory before now stops = record {
+stops_among form events others (Ended NoMemory) before now stops = record {
   first = stops.first;
   others = stops.others ++ others;
   cut = ap (λ (all : List Parts). all ++ others) stops.cut ∙ append_assoc stops.first stops.others others;
@@ -145,7 +147,7 @@ module _ (form : EventForm) (signer : Signer) (seed taken : List ℕ) (old : Ver
       ∙ ap (λ (own : Signer). walk_onto so_far.events (walk own old.watch.at more)) (sym so_far.signed)
 
   -- memory ran out before more bytes were taken
-  pub verified_roomless : (more : List ℕ) → StopsVerifying form (walk signer (seed_point seed) (taken ++ more)) NoMemory before mid
+  pub verified_roomless : (more : List ℕ) → StopsVerifying form (walk signer (seed_point seed) (taken ++ more)) (Ended NoMemory) before mid
   verified_roomless more =
       rw (walk_more more) (prints_front form so_far.events (walk old.watch.signer old.watch.at more).events before mid so_far.prints.0)
 
@@ -247,7 +249,7 @@ module _ (form : EventForm) (signer : Signer) (seed taken : List ℕ) (old : Ver
   reached = ap (λ (w : Walk). w.at) (sym so_far.walked ∙ ap (walk signer (seed_point seed)) (sym (append-nil taken)) ∙ walk_more [])
 
   -- the chain ends behind the input
-  pub ends_done : (left : Option (List ℕ)) (gained : List Parts) → IsAtEnd left → EndsWatch old.watch [] gained (Ok tt) → EndsVerifying form (walk signer (seed_point seed) taken) left Done before mid
+  pub ends_done : (left : Option (List ℕ)) (gained : List Parts) → IsAtEnd left → EndsWatch old.watch [] gained (Ok tt) → EndsVerifying form (walk signer (seed_point seed) taken) left (Ended Done) before mid
   ends_done left gained done (inl ends) = rw so_far.walked (done, ap ending reached ∙ sym ends.1, so_far.prints.0)
   ends_done left gained done (inr want) = absurd (let wrong = want.0 in cc)
 
@@ -263,8 +265,8 @@ pub stops_run : (form : EventForm) (walked : Walk) (left : Option (List ℕ)) (s
     → EndsVerifying form walked left status before now
 stops_run form walked left (Unverified told) before now stops = (inl stops.0, stops.1)
 stops_run form walked left (Unspelled place) before now stops = stops
-stops_run form walked left OutputFault before now stops = stops
-stops_run form walked left NoMemory before now stops = stops
+stops_run form walked left (Ended OutputFault) before now stops = stops
+stops_run form walked left (Ended NoMemory) before now stops = stops
 stops_run form walked left other before now stops = absurd stops
 
 -- a piece that was fed counts
@@ -283,7 +285,7 @@ fed_counts old new piece events gained answer feeds = by_point old.at feeds
 -- ## The run
 
 -- memory ran out before the input was read
-pub verifies_roomless : (form : EventForm) (signer : Signer) (seed : List ℕ) (all held : Option (List ℕ)) → VerifiesChain form signer seed all all NoMemory held held
+pub verifies_roomless : (form : EventForm) (signer : Signer) (seed : List ℕ) (all held : Option (List ℕ)) → VerifiesChain form signer seed all all (Ended NoMemory) held held
 verifies_roomless form signer seed all held = (
   [],
   cut_at_start all,
@@ -292,22 +294,22 @@ verifies_roomless form signer seed all held = (
 
 module _ (options : OptionValues) (all held : Option (List ℕ)) where
   -- memory may always run out
-  unverified : (planned : Result SignsFor SignRefusal) → VerifiesBy options planned all all NoMemory held held
+  unverified : (planned : Result SignsFor SignRefusal) → VerifiesBy options planned all all (Ended NoMemory) held held
   unverified (Ok signs) = verifies_roomless _ _ _ all held
   unverified (Err refusal) = (tt, (refl, refl))
 
-  unchosen : (fault : Fault) → VerifiesBy options (Err (refusal_of fault)) all all (signer_events_status fault) held held
+  unchosen : (fault : Fault) → VerifiesBy options (Err (refusal_of fault)) all all (Ended (fault_status fault)) held held
   unchosen run.NoMemory = (tt, (refl, refl))
   unchosen fault = (refl, (refl, refl))
 
   -- nobody is chosen
-  pub signer_lacks : (planned : Result SignsFor SignRefusal) (fault : Fault) → IsFaultOf planned fault → VerifiesBy options planned all all (signer_events_status fault) held held
+  pub signer_lacks : (planned : Result SignsFor SignRefusal) (fault : Fault) → IsFaultOf planned fault → VerifiesBy options planned all all (Ended (fault_status fault)) held held
   signer_lacks planned fault (inl is) = rw is (unchosen fault)
   signer_lacks planned fault (inr is) = rw is (unverified planned)
 
 -- profile files that aren't loaded
 pub files_lack : (gave : List FileText → Type 0) (unread : List ℕ → Type 0) (name : List ℕ) (error : EnvConfigFileLoadError) → LoadsAsked gave unread name (Err error)
-    → LacksFiles unread (load_events_status error)
+    → LacksFiles unread (Ended (load_status error))
 files_lack gave unread name (load.CouldNotReadFile fault) is = is
 files_lack gave unread name (load.ParseError error) is = absurd is
 files_lack gave unread name load.NoMemory is = tt

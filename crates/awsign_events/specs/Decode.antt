@@ -11,10 +11,11 @@ use Rattle.eventstream.specs.declared.error.Error.{Error}
 use Rattle.eventstream.specs.declared.error.ErrorKind.{ErrorKind}
 use Rattle.eventstream.specs.declared.error.ErrorKind.TheVariants as kind
 use Rattle.awsign_words.specs.declared.events.EventForm.{EventForm}
+use Rattle.awsign_run.specs.declared.status.Status.TheVariants.{Done, NoMemory, OutputFault}
 use Rattle.awsign_events.specs.EventText.{is_spelled, message_text, message_texts}
 use Rattle.awsign_events.specs.declared.decode.Frames.{Frames}
 use Rattle.awsign_events.specs.declared.status.EventsStatus.{EventsStatus}
-use Rattle.awsign_events.specs.declared.status.EventsStatus.TheVariants.{Done, WrongFrame, CutShort, Unspelled, InputFault, OutputFault, NoMemory}
+use Rattle.awsign_events.specs.declared.status.EventsStatus.TheVariants.{CutShort, Ended, InputFault, Unspelled, WrongFrame}
 
 -- The bytes begin with these messages, one after another, which the form can spell; then these bytes follow, at the place behind, which is counted up to 2^64 - 1; and the output gained the
 -- texts of the messages.
@@ -37,15 +38,15 @@ pub record ShowsPart (form : EventForm) (bytes : List ℕ) (before now : Option 
 -- there whole, or whose message the form can't spell; or all that are there whole, where the input failed. Where the output failed or memory ran out, a
 -- front of them is.
 abbrev pub EndsDecoding : EventForm → List ℕ → Option (List ℕ) → EventsStatus → Option (List ℕ) → Option (List ℕ) → Type 0
-EndsDecoding form taken left Done before now = IsAtEnd left × (place : ℕ) × Shows form taken [] place before now
+EndsDecoding form taken left (Ended Done) before now = IsAtEnd left × (place : ℕ) × Shows form taken [] place before now
 EndsDecoding form taken left (WrongFrame place error) before now = (rest : List ℕ) × Shows form taken rest place before now × (first_of rest ≡ fault (error_kind error))
 EndsDecoding form taken left (CutShort place) before now =
     IsAtEnd left × (rest : List ℕ) × Shows form taken rest place before now × IsUnfinished (first_of rest) × (0 < length rest)
 EndsDecoding form taken left (Unspelled place) before now =
     (rest : List ℕ) × Shows form taken rest place before now × (message : Parts) × (others : List ℕ) × (first_of rest ≡ begins message others) × (is_spelled form message ≡ false)
 EndsDecoding form taken left InputFault before now = (rest : List ℕ) × (place : ℕ) × Shows form taken rest place before now × IsUnfinished (first_of rest)
-EndsDecoding form taken left OutputFault before now = ShowsPart form taken before now
-EndsDecoding form taken left NoMemory before now = ShowsPart form taken before now
+EndsDecoding form taken left (Ended OutputFault) before now = ShowsPart form taken before now
+EndsDecoding form taken left (Ended NoMemory) before now = ShowsPart form taken before now
 EndsDecoding form taken left status before now = ⊥
 
 -- what a run decoded: bytes that it took of the input, which tells what it has left
@@ -56,7 +57,7 @@ DecodesInput form all left status before now = (taken : List ℕ) × IsCutOf all
 
 -- how the bytes taken end a run that is done, or isn't
 abbrev pub EndsDecodingAs : EventForm → List ℕ → Option (List ℕ) → Option (List ℕ) → Option (List ℕ) → Result (Unit {0}) EventsStatus → Type 0
-EndsDecodingAs form taken left before now (Ok _) = EndsDecoding form taken left Done before now
+EndsDecodingAs form taken left before now (Ok _) = EndsDecoding form taken left (Ended Done) before now
 EndsDecodingAs form taken left before now (Err status) = EndsDecoding form taken left status before now
 
 -- the bytes that were taken of an input end a run so
@@ -68,8 +69,8 @@ abbrev pub StopsDecoding : EventForm → List ℕ → EventsStatus → Option (L
 StopsDecoding form bytes (WrongFrame place error) before now = (rest : List ℕ) × Shows form bytes rest place before now × (first_of rest ≡ fault (error_kind error))
 StopsDecoding form bytes (Unspelled place) before now =
     (rest : List ℕ) × Shows form bytes rest place before now × (message : Parts) × (others : List ℕ) × (first_of rest ≡ begins message others) × (is_spelled form message ≡ false)
-StopsDecoding form bytes OutputFault before now = ShowsPart form bytes before now
-StopsDecoding form bytes NoMemory before now = ShowsPart form bytes before now
+StopsDecoding form bytes (Ended OutputFault) before now = ShowsPart form bytes before now
+StopsDecoding form bytes (Ended NoMemory) before now = ShowsPart form bytes before now
 StopsDecoding form bytes status before now = ⊥
 
 -- the bytes are shown up to those that wait
@@ -95,13 +96,13 @@ ShowsWhole form bytes frames before now (Err status) = StopsDecoding form bytes 
 abbrev pub WritesMessage : EventForm → ℕ → Parts → Option (List ℕ) → Option (List ℕ) → Result (Unit {0}) EventsStatus → Type 0
 WritesMessage form place message before now (Ok _) = (is_spelled form message ≡ true) × Gains before now (message_text form message)
 WritesMessage form place message before now (Err (Unspelled at)) = (is_spelled form message ≡ false) × (at ≡ place) × (now ≡ before)
-WritesMessage form place message before now (Err OutputFault) = (is_spelled form message ≡ true) × GainsPrefix before now (message_text form message)
-WritesMessage form place message before now (Err NoMemory) = (now ≡ before) ⊎ ((is_spelled form message ≡ true) × GainsPrefix before now (message_text form message))
+WritesMessage form place message before now (Err (Ended OutputFault)) = (is_spelled form message ≡ true) × GainsPrefix before now (message_text form message)
+WritesMessage form place message before now (Err (Ended NoMemory)) = (now ≡ before) ⊎ ((is_spelled form message ≡ true) × GainsPrefix before now (message_text form message))
 WritesMessage form place message before now (Err status) = ⊥
 
 -- how decoding stops at a frame that isn't read
 abbrev pub wrong_frame_of : ℕ → Error → ErrorKind → EventsStatus
-wrong_frame_of place error kind.NoMemory = NoMemory
+wrong_frame_of place error kind.NoMemory = Ended NoMemory
 wrong_frame_of place error other = WrongFrame place error
 
 abbrev pub wrong_frame : ℕ → Error → EventsStatus

@@ -14,9 +14,10 @@ use Rattle.eventstream.specs.Frame.{frame, unframed}
 use Rattle.eventstream.specs.declared.error.Error.{Error}
 use Rattle.eventstream.specs.declared.error.ErrorKind.{ErrorKind}
 use Rattle.eventstream.specs.declared.error.ErrorKind.TheVariants as kind
+use Rattle.awsign_run.specs.declared.status.Status.TheVariants.{Done, NoMemory, OutputFault}
 use Rattle.awsign_events.specs.HexInput.{LacksInput}
 use Rattle.awsign_events.specs.declared.status.EventsStatus.{EventsStatus}
-use Rattle.awsign_events.specs.declared.status.EventsStatus.TheVariants.{Done, BadLine, Unframed, OutputFault, NoMemory}
+use Rattle.awsign_events.specs.declared.status.EventsStatus.TheVariants.{BadLine, Ended, Unframed}
 
 -- ## What lines spell
 
@@ -64,14 +65,14 @@ EncodesMessages is_hex messages (Ok text) = (list_all is_framed messages ≡ tru
 EncodesMessages is_hex messages (Err (Unframed place error)) =
     (front : List Parts) × (message : Parts) × (others : List Parts) × (messages ≡ front ++ message ∷ others) × (list_all is_framed front ≡ true)
     × (place ≡ length front + 1) × (unframed message ≡ Some (error_kind error))
-EncodesMessages is_hex messages (Err NoMemory) = Unit {0}
+EncodesMessages is_hex messages (Err (Ended NoMemory)) = Unit {0}
 EncodesMessages is_hex messages (Err status) = ⊥
 
 -- the lines spell messages whose frames are this text, or one of them is bad
 abbrev pub EncodesSpelled : Bool → Result (List Parts) ℕ → Result (Vec ℕ) EventsStatus → Type 0
 EncodesSpelled is_hex (Ok messages) result = EncodesMessages is_hex messages result
 EncodesSpelled is_hex (Err place) (Err (BadLine at)) = at ≡ place
-EncodesSpelled is_hex (Err place) (Err NoMemory) = Unit {0}
+EncodesSpelled is_hex (Err place) (Err (Ended NoMemory)) = Unit {0}
 EncodesSpelled is_hex (Err place) result = ⊥
 
 -- the input was read, and its lines were encoded, or why it wasn't
@@ -81,11 +82,11 @@ EncodesAll is_hex left result = ((text : List ℕ) × IsAllOf left text × Encod
 -- the output gained the frames of the messages that the lines of the input spell, or a front of them where the output failed or memory ran out; and
 -- nothing, where a line is bad or a message has no frame
 abbrev pub EncodesInput : Bool → Option (List ℕ) → EventsStatus → Option (List ℕ) → Option (List ℕ) → Type 0
-EncodesInput is_hex left Done before now = (text : Vec ℕ) × EncodesAll is_hex left (Ok text) × Gains before now text.items
-EncodesInput is_hex left OutputFault before now = (text : Vec ℕ) × EncodesAll is_hex left (Ok text) × GainsPrefix before now text.items
+EncodesInput is_hex left (Ended Done) before now = (text : Vec ℕ) × EncodesAll is_hex left (Ok text) × Gains before now text.items
+EncodesInput is_hex left (Ended OutputFault) before now = (text : Vec ℕ) × EncodesAll is_hex left (Ok text) × GainsPrefix before now text.items
 EncodesInput is_hex left status before now =
     (EncodesAll is_hex left (Err status) × (now ≡ before))
-    ⊎ ((status ≡ NoMemory) × ((text : Vec ℕ) × EncodesAll is_hex left (Ok text) × GainsPrefix before now text.items))
+    ⊎ ((status ≡ Ended NoMemory) × ((text : Vec ℕ) × EncodesAll is_hex left (Ok text) × GainsPrefix before now text.items))
 
 -- ## Between the functions of `encode_events`
 
@@ -97,9 +98,9 @@ SpellsMessages spelled (Err job_fault.NoMemory) = Unit {0}
 
 -- all of a text was written, or a part of it where the output failed or memory ran out
 abbrev pub WritesEncoded : List ℕ → EventsStatus → Option (List ℕ) → Option (List ℕ) → Type 0
-WritesEncoded text Done before now = Gains before now text
-WritesEncoded text OutputFault before now = GainsProperPrefix before now text
-WritesEncoded text NoMemory before now = GainsProperPrefix before now text
+WritesEncoded text (Ended Done) before now = Gains before now text
+WritesEncoded text (Ended OutputFault) before now = GainsProperPrefix before now text
+WritesEncoded text (Ended NoMemory) before now = GainsProperPrefix before now text
 WritesEncoded text status before now = ⊥
 
 -- the fault, where the two lines of the request don't count
@@ -111,12 +112,12 @@ without_request job_fault.NoMemory = job_fault.NoMemory
 abbrev pub MakesFrame : ℕ → Parts → Result (Vec ℕ) EventsStatus → Type 0
 MakesFrame place message (Ok bytes) = (is_framed message ≡ true) × (bytes.items ≡ frame message)
 MakesFrame place message (Err (Unframed at error)) = (at ≡ place) × (unframed message ≡ Some (error_kind error))
-MakesFrame place message (Err NoMemory) = Unit {0}
+MakesFrame place message (Err (Ended NoMemory)) = Unit {0}
 MakesFrame place message (Err status) = ⊥
 
 -- how encoding stops at a message that isn't written
 abbrev pub no_frame_of : ℕ → Error → ErrorKind → EventsStatus
-no_frame_of place error kind.NoMemory = NoMemory
+no_frame_of place error kind.NoMemory = Ended NoMemory
 no_frame_of place error other = Unframed place error
 
 abbrev pub no_frame : ℕ → Error → EventsStatus

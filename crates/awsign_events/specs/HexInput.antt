@@ -7,8 +7,9 @@ use Rattle.job_text.specs.Lines.{after_text, text_lines}
 use Rattle.job_text.specs.Pieces.{after_pieces, taken_from}
 use Rattle.job_text.specs.declared.fault.JobFault.{JobFault}
 use Rattle.job_text.specs.declared.fault.JobFault.TheVariants as job
+use Rattle.awsign_run.specs.declared.status.Status.TheVariants.{NoMemory}
 use Rattle.awsign_events.specs.declared.status.EventsStatus.{EventsStatus}
-use Rattle.awsign_events.specs.declared.status.EventsStatus.TheVariants.{BadLine, InputFault, TooLarge, NoMemory}
+use Rattle.awsign_events.specs.declared.status.EventsStatus.TheVariants.{BadLine, Ended, InputFault, TooLarge}
 
 -- the most bytes of an input that is kept whole: 64 MiB
 abbrev pub most_input : ℕ
@@ -32,14 +33,14 @@ Unhexes text (Err job.NoMemory) = Unit {0}
 abbrev pub LacksInput : Option (List ℕ) → EventsStatus → Type 0
 LacksInput left InputFault = Unit {0}
 LacksInput left TooLarge = IsLongerThan left most_input
-LacksInput left NoMemory = Unit {0}
+LacksInput left (Ended NoMemory) = Unit {0}
 LacksInput left status = ⊥
 
 -- these are the bytes of the input's text, or its line at this place is bad; or memory ran out
 abbrev pub GivesUnhexed : Result (List ℕ) ℕ → Result (Vec ℕ) EventsStatus → Type 0
 GivesUnhexed spelled (Ok bytes) = spelled ≡ Ok bytes.items
 GivesUnhexed spelled (Err (BadLine place)) = spelled ≡ Err place
-GivesUnhexed spelled (Err NoMemory) = Unit {0}
+GivesUnhexed spelled (Err (Ended NoMemory)) = Unit {0}
 GivesUnhexed spelled (Err status) = ⊥
 
 -- the bytes that the lines of the input spell were read, or the line at this place is bad; or why the input wasn't read

@@ -13,9 +13,10 @@ use Rattle.awsign_words.specs.EventWords.{asked_event_form}
 use Rattle.awsign_words.specs.Words.{OptionValues}
 use Rattle.awsign_words.specs.declared.events.EventForm.{EventForm}
 use Rattle.awsign_run.specs.Chosen.{SignRefusal, SignsFor, asked_profile, refusal_of, signer_by}
+use Rattle.awsign_run.specs.declared.status.Status.TheVariants.{CouldNotReadFile, Done, NoMemory, OutputFault, Refused}
 use Rattle.awsign_events.specs.EventText.{is_spelled, message_texts}
 use Rattle.awsign_events.specs.declared.status.EventsStatus.{EventsStatus}
-use Rattle.awsign_events.specs.declared.status.EventsStatus.TheVariants.{Done, Unverified, Unspelled, CouldNotReadFile, Refused, InputFault, OutputFault, NoMemory}
+use Rattle.awsign_events.specs.declared.status.EventsStatus.TheVariants.{Ended, InputFault, Unspelled, Unverified}
 use Rattle.awsign_events.specs.declared.verify.Verifier.{Verifier}
 
 -- ## What is printed of events
@@ -49,13 +50,13 @@ pub record PrintsUntil (form : EventForm) (events : List Parts) (place : ℕ) (b
 -- where a chain can't end, or a fault of the input, and all events before it are printed; or an event that the form can't spell. Where the output
 -- failed or memory ran out, a front of the events' texts is there. No event is printed that isn't one of the walk.
 abbrev pub EndsVerifying : EventForm → Walk → Option (List ℕ) → EventsStatus → Option (List ℕ) → Option (List ℕ) → Type 0
-EndsVerifying form walked left Done before now = IsAtEnd left × (ending walked.at ≡ Ok tt) × PrintsEvents form walked.events before now
+EndsVerifying form walked left (Ended Done) before now = IsAtEnd left × (ending walked.at ≡ Ok tt) × PrintsEvents form walked.events before now
 EndsVerifying form walked left (Unverified told) before now =
     ((state walked.at ≡ Err told) ⊎ (IsAtEnd left × (ending walked.at ≡ Err told))) × PrintsEvents form walked.events before now
 EndsVerifying form walked left InputFault before now = IsOk (state walked.at) × PrintsEvents form walked.events before now
 EndsVerifying form walked left (Unspelled place) before now = PrintsUntil form walked.events place before now
-EndsVerifying form walked left OutputFault before now = PrintsFront form walked.events before now
-EndsVerifying form walked left NoMemory before now = PrintsFront form walked.events before now
+EndsVerifying form walked left (Ended OutputFault) before now = PrintsFront form walked.events before now
+EndsVerifying form walked left (Ended NoMemory) before now = PrintsFront form walked.events before now
 EndsVerifying form walked left status before now = ⊥
 
 -- bytes of the input were taken, whose walk from the seed ended the run so; where the input tells, `all` is what it had and `left` what it has left
@@ -79,8 +80,8 @@ TouchesNothing all left before now = (left ≡ all) × (now ≡ before)
 
 -- this is why there is nobody whose signatures are computed, or memory ran out
 abbrev pub LacksSigner : SignRefusal → EventsStatus → Type 0
-LacksSigner refusal (Refused fault) = refusal ≡ refusal_of fault
-LacksSigner refusal NoMemory = Unit {0}
+LacksSigner refusal (Ended (Refused fault)) = refusal ≡ refusal_of fault
+LacksSigner refusal (Ended NoMemory) = Unit {0}
 LacksSigner refusal status = ⊥
 
 -- the chain is verified as one of this signer; or there is none, and nothing was read or written
@@ -94,8 +95,8 @@ chain_signer options env files = signer_by options [] env (asked_profile options
 
 -- a profile file couldn't be read, at a path that `unread` tells of, or memory ran out
 abbrev pub LacksFiles : (List ℕ → Type 0) → EventsStatus → Type 0
-LacksFiles unread (CouldNotReadFile path) = unread (string_bytes path)
-LacksFiles unread NoMemory = Unit {0}
+LacksFiles unread (Ended (CouldNotReadFile path)) = unread (string_bytes path)
+LacksFiles unread (Ended NoMemory) = Unit {0}
 LacksFiles unread status = ⊥
 
 -- the chain is verified by texts of profile files that `gave` tells of; or these aren't there, and nothing was read or written
@@ -113,8 +114,8 @@ PrintsUpTo form events place before now = PrintsEvents form events before now ×
 -- how printing these events stops
 abbrev pub StopsPrinting : EventForm → List Parts → EventsStatus → Option (List ℕ) → Option (List ℕ) → Type 0
 StopsPrinting form events (Unspelled place) before now = PrintsUntil form events place before now
-StopsPrinting form events OutputFault before now = PrintsFront form events before now
-StopsPrinting form events NoMemory before now = PrintsFront form events before now
+StopsPrinting form events (Ended OutputFault) before now = PrintsFront form events before now
+StopsPrinting form events (Ended NoMemory) before now = PrintsFront form events before now
 StopsPrinting form events status before now = ⊥
 
 -- these events are printed, or printing them stops

@@ -7,6 +7,7 @@ ghost use Rattle.awsign_events.specs.Decode.{DecodesInput, EndsDecodingAs, Reads
 
 use crate::status::EventsStatus;
 use crate::text::{is_spelled, message_text};
+use awsign_run::Status;
 use awsign_words::EventForm;
 use eventstream::{Error, ErrorKind, peek_message};
 use seg_buf::SegBuf;
@@ -41,11 +42,11 @@ pub fn decode_events<S: ByteSource, K: ByteSink>(
     ensures outside { (S.faults input.old ≤ S.faults input.new) × (K.faults out.old ≤ K.faults out.new) }
 
     // It answers that the output failed exactly where that counted a fault.
-    ensures failed { CountsFault (result ≡ EventsStatus.OutputFault) (K.faults out.old) (K.faults out.new) }
+    ensures failed { CountsFault (result ≡ EventsStatus.Ended Status.OutputFault) (K.faults out.old) (K.faults out.new) }
 {
     let mut frames = Frames::new(alloc);
     match frames.read(alloc, form, input, out) {
-        Ok(()) => EventsStatus::Done,
+        Ok(()) => EventsStatus::Ended(Status::Done),
         Err(status) => status,
     }
 }
@@ -74,7 +75,7 @@ impl Frames {
         requires first { self.old.place ≡ 1 }
         ensures reads { ReadsFrames form (S.left input.old) (S.left input.new) (K.held out.old) (K.held out.new) result }
         ensures count { S.faults input.old ≤ S.faults input.new }
-        ensures failed { CountsFault (IsErrOf result EventsStatus.OutputFault) (K.faults out.old) (K.faults out.new) }
+        ensures failed { CountsFault (IsErrOf result (EventsStatus.Ended Status.OutputFault)) (K.faults out.old) (K.faults out.new) }
     {
         let mut piece = [0u8; MOST_PIECE];
         'pieces: for _ in 0..u64::MAX {
@@ -100,7 +101,7 @@ impl Frames {
         ensures shows { (taken : List ℕ) (before : Option (List ℕ)) → ShowsUpTo form taken self.old before (K.held out.old)
             → ShowsWhole form (taken ++ piece.now) self.new before (K.held out.new) result }
         ensures few { OnOk result (length self.new.waiting.bytes < most_frame) }
-        ensures failed { CountsFault (IsErrOf result EventsStatus.OutputFault) (K.faults out.old) (K.faults out.new) }
+        ensures failed { CountsFault (IsErrOf result (EventsStatus.Ended Status.OutputFault)) (K.faults out.old) (K.faults out.new) }
     {
         self.waiting.push_slice(piece)?;
         'frames: while self.show_front(alloc, form, out)? {}
@@ -118,7 +119,7 @@ impl Frames {
             → ShowsOne form taken self.new before (K.held out.new) result }
         ensures shorter { result ≡ Ok true → length self.new.waiting.bytes < length self.old.waiting.bytes }
         ensures few { result ≡ Ok false → length self.new.waiting.bytes < most_frame }
-        ensures failed { CountsFault (IsErrOf result EventsStatus.OutputFault) (K.faults out.old) (K.faults out.new) }
+        ensures failed { CountsFault (IsErrOf result (EventsStatus.Ended Status.OutputFault)) (K.faults out.old) (K.faults out.new) }
     {
         match peek_message(alloc, &self.waiting) {
             Ok(Some((message, len))) => {
@@ -136,7 +137,7 @@ impl Frames {
     fn end(&self) -> Result<(), EventsStatus>
         ensures ends { (form : Form) (taken : List ℕ) (left before now : Option (List ℕ)) → IsAtEnd left → ShowsUpTo form taken self.now before now
             → WaitsUnfinished self.now → EndsDecodingAs form taken left before now result }
-        ensures sound { IsErrOf result EventsStatus.OutputFault → ⊥ }
+        ensures sound { IsErrOf result (EventsStatus.Ended Status.OutputFault) → ⊥ }
     {
         if self.waiting.remaining() == 0 {
             Ok(())
@@ -155,7 +156,7 @@ pub(crate) fn write_message<K: ByteSink>(
     out: &mut K,
 ) -> Result<(), EventsStatus>
     ensures wrote { WritesMessage form place message.now (K.held out.old) (K.held out.new) result }
-    ensures failed { CountsFault (IsErrOf result EventsStatus.OutputFault) (K.faults out.old) (K.faults out.new) }
+    ensures failed { CountsFault (IsErrOf result (EventsStatus.Ended Status.OutputFault)) (K.faults out.old) (K.faults out.new) }
 {
     if !is_spelled(form, message) {
         return Err(EventsStatus::Unspelled(place));
@@ -170,7 +171,7 @@ fn wrong_frame(place: u64, error: Error) -> EventsStatus
     ensures { result ≡ wrong_frame place error }
 {
     match error.kind() {
-        ErrorKind::NoMemory => EventsStatus::NoMemory,
+        ErrorKind::NoMemory => EventsStatus::Ended(Status::NoMemory),
         _ => EventsStatus::WrongFrame(place, error),
     }
 }

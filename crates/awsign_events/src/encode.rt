@@ -6,6 +6,7 @@ ghost use Rattle.awsign_events.specs.Encode.{EncodesAll, EncodesInput, EncodesMe
 
 use crate::hex_input::MOST_INPUT;
 use crate::status::EventsStatus;
+use awsign_run::Status;
 use eventstream::{Error, ErrorKind, write_message_to};
 use job_text::{JobFault, take_job};
 use smithy_core::{ByteSink, ByteSource, Mem, Message, push_line, read_all, write_all};
@@ -28,7 +29,7 @@ pub fn encode_events<S: ByteSource, K: ByteSink>(
     ensures outside { (S.faults input.old ≤ S.faults input.new) × (K.faults out.old ≤ K.faults out.new) }
 
     // It answers that the output failed exactly where that counted a fault.
-    ensures failed { CountsFault (result ≡ EventsStatus.OutputFault) (K.faults out.old) (K.faults out.new) }
+    ensures failed { CountsFault (result ≡ EventsStatus.Ended Status.OutputFault) (K.faults out.old) (K.faults out.new) }
 {
     match encoded_input(alloc, is_hex, input) {
         Ok(text) => write_encoded(text.as_slice(), out),
@@ -39,10 +40,10 @@ pub fn encode_events<S: ByteSource, K: ByteSink>(
 // Writes a text, and answers how that went.
 fn write_encoded<K: ByteSink>(text: &[u8], out: &mut K) -> EventsStatus
     ensures wrote { WritesEncoded text.now result (K.held out.old) (K.held out.new) }
-    ensures failed { CountsFault (result ≡ EventsStatus.OutputFault) (K.faults out.old) (K.faults out.new) }
+    ensures failed { CountsFault (result ≡ EventsStatus.Ended Status.OutputFault) (K.faults out.old) (K.faults out.new) }
 {
     match write_all(out, text) {
-        Ok(()) => EventsStatus::Done,
+        Ok(()) => EventsStatus::Ended(Status::Done),
         Err(fault) => EventsStatus::from(fault),
     }
 }
@@ -154,7 +155,7 @@ fn no_frame(place: usize, error: Error) -> EventsStatus
     ensures { result ≡ no_frame place error }
 {
     match error.kind() {
-        ErrorKind::NoMemory => EventsStatus::NoMemory,
+        ErrorKind::NoMemory => EventsStatus::Ended(Status::NoMemory),
         _ => EventsStatus::Unframed(place, error),
     }
 }

@@ -38,7 +38,7 @@ impl TakeLine for HexDraft {
 /// # Errors
 ///
 /// [`EventsStatus::BadLine`] at the first line that is bad, [`EventsStatus::InputFault`], [`EventsStatus::TooLarge`] where the input has
-/// over 67,108,864 bytes, and [`EventsStatus::NoMemory`].
+/// over 67,108,864 bytes, and [`Status::NoMemory`](awsign_run::Status).
 pub fn read_hex<S: ByteSource>(alloc: Global, input: &mut S) -> Result<Vec<u8>, EventsStatus>
     ensures reads { ReadsHex (S.left input.old) result }
     ensures count { S.faults input.old ≤ S.faults input.new }

@@ -1,5 +1,5 @@
 //! How a run ends.
-use awsign_run::Fault;
+use awsign_run::{Fault, Status};
 use chain_watch::ChainFault;
 use env_config::EnvConfigFileLoadError;
 use eventstream::Error;
@@ -10,8 +10,8 @@ use std::alloc::AllocError;
 /// How a run ended. Places count from 1.
 #[derive(Debug, Drop)]
 pub enum EventsStatus {
-    /// All was written.
-    Done,
+    /// As a run of the other commands ends.
+    Ended(Status),
     /// The frame at this place is none, for this reason.
     WrongFrame(u64, Error),
     /// The bytes end within the frame at this place.
@@ -20,10 +20,6 @@ pub enum EventsStatus {
     Unspelled(u64),
     /// A frame isn't the next one of the chain, or the chain isn't whole.
     Unverified(ChainFault),
-    /// There is no key, no region or no service, or it is empty.
-    Refused(Fault),
-    /// The profile file at this path, which an option names, is absent, or the disk failed.
-    CouldNotReadFile(String),
     /// The line of the input at this place is bad.
     BadLine(usize),
     /// The event at this place has no frame, for this reason.
@@ -32,10 +28,6 @@ pub enum EventsStatus {
     InputFault,
     /// The input has over 64 MiB, and isn't read frame by frame.
     TooLarge,
-    /// The output failed.
-    OutputFault,
-    /// Memory ran out.
-    NoMemory,
 }
 
 impl EventsStatus {
@@ -48,45 +40,39 @@ impl EventsStatus {
         ensures { result ≡ events_code self.now }
     {
         match self {
-            EventsStatus::Done => 0,
+            EventsStatus::Ended(status) => status.code(),
             EventsStatus::WrongFrame(_, _)
             | EventsStatus::CutShort(_)
             | EventsStatus::Unspelled(_)
             | EventsStatus::Unverified(_)
-            | EventsStatus::Refused(_)
             | EventsStatus::BadLine(_)
             | EventsStatus::Unframed(_, _) => 1,
-            EventsStatus::CouldNotReadFile(_)
-            | EventsStatus::InputFault
-            | EventsStatus::TooLarge
-            | EventsStatus::OutputFault
-            | EventsStatus::NoMemory => 3,
+            EventsStatus::InputFault | EventsStatus::TooLarge => 3,
         }
     }
 }
 
 impl From<AllocError> for EventsStatus {
     ghost use Rattle.std.specs.Prelude.{◌≡◌};
-    ghost use Rattle.awsign_events.specs.declared.status.EventsStatus.TheVariants.{NoMemory};
+    ghost use Rattle.awsign_run.specs.declared.status.Status.TheVariants.{NoMemory};
+    ghost use Rattle.awsign_events.specs.declared.status.EventsStatus.TheVariants.{Ended};
 
-    ghost from_gives = { λ _ status. status ≡ NoMemory };
+    ghost from_gives = { λ _ status. status ≡ Ended NoMemory };
 
     fn from(_e: AllocError) -> EventsStatus {
-        EventsStatus::NoMemory
+        EventsStatus::Ended(Status::NoMemory)
     }
 }
 
 impl From<SinkError> for EventsStatus {
     ghost use Rattle.std.specs.Prelude.{◌≡◌};
-    ghost use Rattle.awsign_events.specs.EventsStatus.{sink_events_status};
+    ghost use Rattle.awsign_run.specs.Status.{sink_status};
+    ghost use Rattle.awsign_events.specs.declared.status.EventsStatus.TheVariants.{Ended};
 
-    ghost from_gives = { λ fault status. status ≡ sink_events_status fault };
+    ghost from_gives = { λ fault status. status ≡ Ended (sink_status fault) };
 
     fn from(fault: SinkError) -> EventsStatus {
-        match fault {
-            SinkError::Failed => EventsStatus::OutputFault,
-            SinkError::NoMemory => EventsStatus::NoMemory,
-        }
+        EventsStatus::Ended(Status::from(fault))
     }
 }
 
@@ -100,7 +86,7 @@ impl From<ReadFault> for EventsStatus {
         match fault {
             ReadFault::Failed => EventsStatus::InputFault,
             ReadFault::TooLarge => EventsStatus::TooLarge,
-            ReadFault::NoMemory => EventsStatus::NoMemory,
+            ReadFault::NoMemory => EventsStatus::Ended(Status::NoMemory),
         }
     }
 }
@@ -114,41 +100,32 @@ impl From<JobFault> for EventsStatus {
     fn from(fault: JobFault) -> EventsStatus {
         match fault {
             JobFault::BadLine(place) => EventsStatus::BadLine(place),
-            JobFault::NoMemory => EventsStatus::NoMemory,
+            JobFault::NoMemory => EventsStatus::Ended(Status::NoMemory),
         }
     }
 }
 
 impl From<EnvConfigFileLoadError> for EventsStatus {
     ghost use Rattle.std.specs.Prelude.{◌≡◌};
-    ghost use Rattle.awsign_events.specs.EventsStatus.{load_events_status};
+    ghost use Rattle.awsign_run.specs.Status.{load_status};
+    ghost use Rattle.awsign_events.specs.declared.status.EventsStatus.TheVariants.{Ended};
 
-    ghost from_gives = { λ fault status. status ≡ load_events_status fault };
+    ghost from_gives = { λ fault status. status ≡ Ended (load_status fault) };
 
     fn from(fault: EnvConfigFileLoadError) -> EventsStatus {
-        match fault {
-            EnvConfigFileLoadError::ParseError(error) => {
-                EventsStatus::Refused(Fault::Profile(error))
-            }
-            EnvConfigFileLoadError::CouldNotReadFile(fault) => {
-                EventsStatus::CouldNotReadFile(fault.path)
-            }
-            EnvConfigFileLoadError::NoMemory => EventsStatus::NoMemory,
-        }
+        EventsStatus::Ended(Status::from(fault))
     }
 }
 
 impl From<Fault> for EventsStatus {
     ghost use Rattle.std.specs.Prelude.{◌≡◌};
-    ghost use Rattle.awsign_events.specs.EventsStatus.{signer_events_status};
+    ghost use Rattle.awsign_run.specs.Status.{fault_status};
+    ghost use Rattle.awsign_events.specs.declared.status.EventsStatus.TheVariants.{Ended};
 
-    ghost from_gives = { λ fault status. status ≡ signer_events_status fault };
+    ghost from_gives = { λ fault status. status ≡ Ended (fault_status fault) };
 
     fn from(fault: Fault) -> EventsStatus {
-        match fault {
-            Fault::NoMemory => EventsStatus::NoMemory,
-            fault => EventsStatus::Refused(fault),
-        }
+        EventsStatus::Ended(Status::from(fault))
     }
 }
 
@@ -160,7 +137,7 @@ impl From<ChainFault> for EventsStatus {
 
     fn from(fault: ChainFault) -> EventsStatus {
         match fault {
-            ChainFault::NoMemory => EventsStatus::NoMemory,
+            ChainFault::NoMemory => EventsStatus::Ended(Status::NoMemory),
             fault => EventsStatus::Unverified(fault),
         }
     }

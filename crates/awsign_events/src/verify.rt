@@ -14,7 +14,7 @@ ghost use Rattle.awsign_events.specs.VerifyEvents.{EndsVerifying, IsNewVerifier,
 
 use crate::decode::{MOST_PIECE, write_message};
 use crate::status::EventsStatus;
-use awsign_run::{Chosen, load_source, signer_for};
+use awsign_run::{Chosen, Status, load_source, signer_for};
 use awsign_words::{EventForm, EventsAsked};
 use bytes::Bytes;
 use chain_watch::ChainWatch;
@@ -56,7 +56,7 @@ pub fn verify_events<S: ByteSource, D: Disk, K: ByteSink>(
     ensures outside { (D.files disk.new ≡ D.files disk.old) × (D.faults disk.old ≤ D.faults disk.new) × (S.faults input.old ≤ S.faults input.new) }
 
     // It answers that the output failed exactly where that counted a fault.
-    ensures failed { CountsFault (result ≡ EventsStatus.OutputFault) (K.faults out.old) (K.faults out.new) }
+    ensures failed { CountsFault (result ≡ EventsStatus.Ended Status.OutputFault) (K.faults out.old) (K.faults out.new) }
 {
     match load_source(alloc, env, disk, &asked.options) {
         Ok(source) => verify_by_files(alloc, asked, env, &source, input, out),
@@ -77,7 +77,7 @@ fn verify_by_files<S: ByteSource, K: ByteSink>(
     ensures verifies { VerifiesBy asked.now.options (chain_signer asked.now.options env.now (map file_of source.now.files.items))
         (S.left input.old) (S.left input.new) result (K.held out.old) (K.held out.new) }
     ensures count { S.faults input.old ≤ S.faults input.new }
-    ensures failed { CountsFault (result ≡ EventsStatus.OutputFault) (K.faults out.old) (K.faults out.new) }
+    ensures failed { CountsFault (result ≡ EventsStatus.Ended Status.OutputFault) (K.faults out.old) (K.faults out.new) }
 {
     match signer_for(alloc, &asked.options, "", env, source) {
         Ok(signer) => verify_chain(alloc, asked, &signer, input, out),
@@ -96,10 +96,10 @@ fn verify_chain<S: ByteSource, K: ByteSink>(
     ensures verifies { VerifiesChain (asked_event_form asked.now.options) (frames_signer (signs_for_of signer.now)) (asked_seed asked.now.options)
         (S.left input.old) (S.left input.new) result (K.held out.old) (K.held out.new) }
     ensures count { S.faults input.old ≤ S.faults input.new }
-    ensures failed { CountsFault (result ≡ EventsStatus.OutputFault) (K.faults out.old) (K.faults out.new) }
+    ensures failed { CountsFault (result ≡ EventsStatus.Ended Status.OutputFault) (K.faults out.old) (K.faults out.new) }
 {
     let Ok(mut verifier) = Verifier::new(alloc, seed_asked(&asked.options), signer) else {
-        return EventsStatus::NoMemory;
+        return EventsStatus::Ended(Status::NoMemory);
     };
     match verifier.read(alloc, asked.form(), input, out) {
         Ok(()) => verifier.finish(alloc),
@@ -141,7 +141,7 @@ impl Verifier {
         ensures reads { (signer : ChainSigner) (seed : List ℕ) → IsNewVerifier signer seed self.old
             → ReadsVerified form signer seed (S.left input.old) (S.left input.new) self.new (K.held out.old) (K.held out.new) result }
         ensures count { S.faults input.old ≤ S.faults input.new }
-        ensures failed { CountsFault (IsErrOf result EventsStatus.OutputFault) (K.faults out.old) (K.faults out.new) }
+        ensures failed { CountsFault (IsErrOf result (EventsStatus.Ended Status.OutputFault)) (K.faults out.old) (K.faults out.new) }
     {
         let mut piece = [0u8; MOST_PIECE];
         'pieces: while self.watch.fed() < MOST_TAKEN {
@@ -166,7 +166,7 @@ impl Verifier {
         ensures takes { (signer : ChainSigner) (seed taken : List ℕ) (before : Option (List ℕ)) → IsVerified form signer seed taken self.old before (K.held out.old)
             → VerifiesTaken form signer seed (taken ++ piece.now) self.new before (K.held out.new) result }
         ensures fed { OnOk result (self.new.watch.fed ≡ self.old.watch.fed + length piece.now) }
-        ensures failed { CountsFault (IsErrOf result EventsStatus.OutputFault) (K.faults out.old) (K.faults out.new) }
+        ensures failed { CountsFault (IsErrOf result (EventsStatus.Ended Status.OutputFault)) (K.faults out.old) (K.faults out.new) }
     {
         let mut events = Vec::new(alloc);
         let piece = Bytes::copy_from_slice(alloc, piece)?;
@@ -182,10 +182,10 @@ impl Verifier {
     fn finish(self, alloc: Global) -> EventsStatus
         ensures ends { (form : EventForm) (signer : ChainSigner) (seed taken : List ℕ) (left before now : Option (List ℕ)) → IsAtEnd left
             → IsVerified form signer seed taken self before now → EndsVerifying form (walk signer (seed_point seed) taken) left result before now }
-        ensures unfailed { result ≡ EventsStatus.OutputFault → ⊥ }
+        ensures unfailed { result ≡ EventsStatus.Ended Status.OutputFault → ⊥ }
     {
         match self.watch.finish(&mut Vec::new(alloc)) {
-            Ok(()) => EventsStatus::Done,
+            Ok(()) => EventsStatus::Ended(Status::Done),
             Err(fault) => EventsStatus::from(fault),
         }
     }
@@ -201,7 +201,7 @@ fn print_events<K: ByteSink>(
 ) -> Result<u64, EventsStatus>
     ensures prints { (first : List Parts) (before : Option (List ℕ)) → PrintsUpTo form first place before (K.held out.old)
         → PrintsAll form (first ++ events.now) before (K.held out.new) result }
-    ensures failed { CountsFault (IsErrOf result EventsStatus.OutputFault) (K.faults out.old) (K.faults out.new) }
+    ensures failed { CountsFault (IsErrOf result (EventsStatus.Ended Status.OutputFault)) (K.faults out.old) (K.faults out.new) }
 {
     let mut next = place;
     'events: for event in events {

@@ -33,10 +33,10 @@ use Rattle.awsign_run.specs.declared.fault.Fault.TheVariants.{NoMemory}
 
 -- ## Faults
 
--- an error of signing is told, or memory ran out
-told : (error : SigningError) → (refusal_of (signing_fault error) ≡ unsigned error) ⊎ (signing_fault error ≡ NoMemory)
-told SignedNoMemory = inr refl
-told error = inl refl
+-- an error of signing is answered, or memory ran out
+answered : (error : SigningError) → (refusal_of (signing_fault error) ≡ unsigned error) ⊎ (signing_fault error ≡ NoMemory)
+answered SignedNoMemory = inr refl
+answered error = inl refl
 
 -- a URL that isn't read
 pub url_unread : (url : List ℕ) (case : Target → Case) (fault : UriFault) → ReadsTarget url (Err fault) → RefusesUrl url case (signing_fault (target_error fault))
@@ -97,7 +97,7 @@ module _ (by : SigningState) (request : HttpRequest) (payload : Option (List ℕ
     where
       by_test : (option_or (unsigned_chunk_at at) (refusal_for (target_of uri)) ≡ Some error) ⊎ (error ≡ SignedNoMemory)
           → RefusesUrl url case (signing_fault error)
-      by_test (inl is) = elim (told error) [ inl tells ↦ inl (inl (uri, error, spells, refusal_is (target_of uri) ∙ is, tells)) | inr memory ↦ inr memory ]
+      by_test (inl is) = elim (answered error) [ inl refuses ↦ inl (inl (uri, error, spells, refusal_is (target_of uri) ∙ is, refuses)) | inr memory ↦ inr memory ]
       by_test (inr is) = inr (rw is refl)
 
 -- ## The request of words

@@ -88,17 +88,17 @@ abbrev pub guessed_service : List ℕ → Option (List ℕ)
 guessed_service host =
     let name = before_byte colon host in if is_aws_host name then last_service (slice_split (λ byte. byte == dot) name) else None
 
--- ## What is told
+-- ## What is printed
 
 -- the service that the host has to name, since no option does
-abbrev pub told_service : OptionValues → List ℕ → Option (List ℕ)
-told_service options host = if has options (codes "--service") || has options (codes "--s3") then None else guessed_service host
+abbrev pub printed_service : OptionValues → List ℕ → Option (List ℕ)
+printed_service options host = if has options (codes "--service") || has options (codes "--s3") then None else guessed_service host
 
 -- the line of a guess
 abbrev pub service_line : List ℕ → List ℕ
 service_line service = tool_line (codes "the service is " ++ (service ++ codes ", by the host; --service NAME says another"))
 
--- the guess was told, where there is one; or memory ran out, and nothing is told
-abbrev pub TellsService : Option (List ℕ) → Option (List ℕ) → Option (List ℕ) → Type 0
-TellsService None before now = now ≡ before
-TellsService (Some service) before now = GainsSome before now (service_line service) ⊎ (now ≡ before)
+-- the guess was printed, where there is one; or memory ran out, and nothing is
+abbrev pub PrintsService : Option (List ℕ) → Option (List ℕ) → Option (List ℕ) → Type 0
+PrintsService None before now = now ≡ before
+PrintsService (Some service) before now = GainsSome before now (service_line service) ⊎ (now ≡ before)

@@ -144,9 +144,9 @@ abbrev pub PresignsAgain : SignWanted → Type 0
 PresignsAgain sign_wanted = (sign_wanted.presigns ≡ true) × IsPresignedAlready sign_wanted.url
 
 -- whether one is
-abbrev pub TellsAgain : SignWanted → Bool → Type 0
-TellsAgain sign_wanted true = PresignsAgain sign_wanted
-TellsAgain sign_wanted false = PresignsAgain sign_wanted → ⊥
+abbrev pub DecidesAgain : SignWanted → Bool → Type 0
+DecidesAgain sign_wanted true = PresignsAgain sign_wanted
+DecidesAgain sign_wanted false = PresignsAgain sign_wanted → ⊥
 
 -- that text, where no URL is to be presigned that is so already; or that one is, or memory ran out
 abbrev pub PrintsSigned : SignWanted → List (List ℕ × List ℕ) → List FileText → Option (List ℕ) → Instant → Result (Vec ℕ) Fault → Type 0

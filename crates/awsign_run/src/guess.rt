@@ -3,7 +3,7 @@ ghost use Rattle.std.specs.Prelude.{◌≡◌, ◌≤◌, ◌==◌, Some, IfOk, 
 ghost use Rattle.std.specs.List.{list_all, list_any, slice_split};
 ghost use Rattle.std.specs.String.{string_bytes};
 ghost use Rattle.job_text.specs.Lines.{colon};
-ghost use Rattle.awsign_run.specs.Guess.{TellsService, before_byte, behind_leading_slash, behind_slash, behind_two_slashes, dot, ends_in_digit, guessed_service, hyphen, is_aws_host, is_domain_label, is_service_byte, is_region, is_service, last_service, number_sign, question_mark, service_line, service_of_label, slash, told_service, url_host};
+ghost use Rattle.awsign_run.specs.Guess.{PrintsService, before_byte, behind_leading_slash, behind_slash, behind_two_slashes, dot, ends_in_digit, guessed_service, hyphen, is_aws_host, is_domain_label, is_service_byte, is_region, is_service, last_service, number_sign, question_mark, service_line, service_of_label, slash, printed_service, url_host};
 
 use crate::saying::{tool_line, write_some};
 use smithy_core::{ByteSink, Env, Mem};
@@ -173,18 +173,18 @@ fn is_domain_label(label: &str) -> bool
 }
 
 /// Says on `err` which service is taken, where no option names it and the host does.
-pub fn tell_service<E: ByteSink>(alloc: Global, options: &Env, host: &str, err: &mut E)
-    ensures tells { TellsService (told_service options.now host.now) (E.held err.old) (E.held err.new) }
+pub fn print_service<E: ByteSink>(alloc: Global, options: &Env, host: &str, err: &mut E)
+    ensures prints { PrintsService (printed_service options.now host.now) (E.held err.old) (E.held err.new) }
     ensures count { E.faults err.old ≤ E.faults err.new }
 {
-    if let Some(service) = told_service(options, host) {
-        tell(alloc, service, err);
+    if let Some(service) = printed_service(options, host) {
+        print_service_line(alloc, service, err);
     }
 }
 
 // The service that the host has to name.
-fn told_service<'a>(options: &Env, host: &'a str) -> Option<&'a str>
-    ensures { option_copied result ≡ told_service options.now host.now }
+fn printed_service<'a>(options: &Env, host: &'a str) -> Option<&'a str>
+    ensures { option_copied result ≡ printed_service options.now host.now }
 {
     if options.get("--service").is_some() || options.get("--s3").is_some() {
         None
@@ -193,8 +193,8 @@ fn told_service<'a>(options: &Env, host: &'a str) -> Option<&'a str>
     }
 }
 
-fn tell<E: ByteSink>(alloc: Global, service: &str, err: &mut E)
-    ensures tells { TellsService (Some service.now) (E.held err.old) (E.held err.new) }
+fn print_service_line<E: ByteSink>(alloc: Global, service: &str, err: &mut E)
+    ensures prints { PrintsService (Some service.now) (E.held err.old) (E.held err.new) }
     ensures count { E.faults err.old ≤ E.faults err.new }
 {
     if let Ok(line) = service_line(alloc, service) {

@@ -21,7 +21,7 @@ pub use crate::choosing::signer_for;
 pub use crate::chosen::Chosen;
 pub use crate::digest::digest_of;
 pub use crate::fault::{Fault, file_paths};
-pub use crate::guess::{guessed_service, tell_service, url_host};
+pub use crate::guess::{guessed_service, print_service, url_host};
 pub use crate::progress::ProgressSource;
 pub use crate::run::{load_source, moment_asked, moment_of, run_signing, write_text};
 pub use crate::saying::{fault_line, say, tool_line, write_some};

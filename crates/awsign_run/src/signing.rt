@@ -9,7 +9,7 @@ ghost use Rattle.aws_signing.specs.SigningFaults.{of_signing};
 ghost use Rattle.awsign_run.specs.Chosen.{asked_profile, signs_for_of};
 ghost use Rattle.awsign_run.specs.Faults.{signing_fault};
 ghost use Rattle.awsign_run.specs.Guess.{url_host};
-ghost use Rattle.awsign_run.specs.Signing.{IsAsked, IsPrinted, PrintsAnew, PrintsFor, PrintsSigned, SignsAsked, SignsPrinted, SignsUrl, TellsAgain, asked_case, asked_form, asked_payload, asked_settings, chosen_signer, expiry, is_long, is_s3, default_payload, usual_settings};
+ghost use Rattle.awsign_run.specs.Signing.{IsAsked, IsPrinted, PrintsAnew, PrintsFor, PrintsSigned, SignsAsked, SignsPrinted, SignsUrl, DecidesAgain, asked_case, asked_form, asked_payload, asked_settings, chosen_signer, expiry, is_long, is_s3, default_payload, usual_settings};
 ghost use Rattle.awsign_words.specs.Words.{sign_wanted};
 
 use crate::choosing::signer_for;
@@ -68,7 +68,7 @@ pub fn signed_text(
 
 // Whether a URL is to be presigned that is presigned already: a service would find two signatures.
 fn presigns_again(alloc: Global, asked: &Asked<'_>) -> Mem<bool>
-    ensures { IfOk result (TellsAgain (sign_wanted asked.now)) }
+    ensures { IfOk result (DecidesAgain (sign_wanted asked.now)) }
 {
     if asked.presigns {
         is_presigned(alloc, asked.url)

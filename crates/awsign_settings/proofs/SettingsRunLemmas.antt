@@ -14,7 +14,7 @@ use Rattle.awsign_run.specs.declared.fault.Fault.{Fault}
 use Rattle.awsign_run.specs.declared.status.Status.TheVariants.{NoMemory, Refused}
 use Rattle.awsign_settings.specs.Own.{Own}
 use Rattle.awsign_settings.specs.Settings.{Used, UsedSettings, given_choice, key_of_parts, lack_of, settings_lack, used_value}
-use Rattle.awsign_settings.specs.SettingsRun.{IsUnreadStatus, TellsBy, refusal_in, region_refusal, settings_refusal}
+use Rattle.awsign_settings.specs.SettingsRun.{IsUnreadStatus, PrintsBy, refusal_in, region_refusal, settings_refusal}
 
 -- profile files that aren't loaded
 pub files_unread : (gave : List FileText → Type 0) (unread : List ℕ → Type 0) (name : List ℕ) (error : EnvConfigFileLoadError) → LoadsAsked gave unread name (Err error)
@@ -25,12 +25,12 @@ files_unread gave unread name load.NoMemory is = tt
 
 module _ (paths : List ℕ) (options : OptionValues) (env : List (List ℕ × List ℕ)) (held : Option (List ℕ)) where
   -- memory may always run out
-  pub untold : (planned : Result (List Own) Lack) → TellsBy paths options env planned NoMemory held held
-  untold (Ok owns) = inl refl
-  untold (Err lack) = refl
+  pub unprinted : (planned : Result (List Own) Lack) → PrintsBy paths options env planned NoMemory held held
+  unprinted (Ok owns) = inl refl
+  unprinted (Err lack) = refl
 
   lacks_by : (planned : Result (List Own) Lack) (found : Option Lack) (made : Fault) → IfSome found (λ lack. planned ≡ Err lack)
-      → Some (refusal_of made) ≡ option_map (lack_refusal paths) found → TellsBy paths options env planned (Refused made) held held
+      → Some (refusal_of made) ≡ option_map (lack_refusal paths) found → PrintsBy paths options env planned (Refused made) held held
   lacks_by planned None made is told = absurd cc
   lacks_by planned (Some lack) made is told =
       let same : refusal_of made ≡ lack_refusal paths lack = cc in
@@ -38,7 +38,7 @@ module _ (paths : List ℕ) (options : OptionValues) (env : List (List ℕ × Li
 
   -- a profile file with a faulty line
   pub files_faulty : (planned : Result (List Own) Lack) (fault : SettingsFault) (made : Fault) → IsLackOf planned fault
-      → Some (refusal_of made) ≡ option_map (lack_refusal paths) (lack_in fault) → TellsBy paths options env planned (Refused made) held held
+      → Some (refusal_of made) ≡ option_map (lack_refusal paths) (lack_in fault) → PrintsBy paths options env planned (Refused made) held held
   files_faulty planned fault made is told = lacks_by planned (lack_in fault) made is told
 
 -- ## What can be signed

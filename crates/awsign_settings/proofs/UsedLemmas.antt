@@ -1,4 +1,4 @@
--- The settings that are told are those that a request is signed with.
+-- The settings that are printed are those that a request is signed with.
 use Rattle.std.proofs.Common.{◌≡◌, ◌++◌, ◌∷◌, [], ℕ, List, Bool, true, false, Option, Some, None, append_assoc, append-nil, codes, cond, fold, length, option_map, refl, sym, ap, ap₂, subst, ◌∙◌}
 use Rattle.std.proofs.Math.Dec.{eqb-suc-zero}
 use Rattle.std.specs.Prelude.{Result, Ok, Err, unwrap_or}
@@ -14,7 +14,7 @@ use Rattle.aws_settings.specs.Choice.{ChosenKey, ChosenSettings, Lack, Profile, 
 use Rattle.awsign_run.specs.Chosen.{asked_profile}
 use Rattle.awsign_settings.specs.Own.{Own, onto_own, own_profiles, part_in, part_key}
 use Rattle.awsign_settings.specs.Settings.{Used, by_name, by_nothing, given_choice, filled_use, from_files, from_option, from_variable, key_of_parts, last_part, part_of_own, use_in_file, used_key, used_key_behind, used_profile, used_region, used_settings, used_variable_key, used_value}
-use Rattle.awsign_settings.specs.UsedLaws.{told_choice}
+use Rattle.awsign_settings.specs.UsedLaws.{printed_choice}
 use Rattle.awsign_settings.specs.declared.part.Part.{Part}
 use Rattle.awsign_settings.specs.declared.part.Part.TheVariants.{KeyId, Secret, Token, Region}
 
@@ -249,10 +249,10 @@ module _ (options : OptionValues) (env : List (List ℕ × List ℕ)) where
         ap (λ (n : List ℕ). settings_of_parts n (key_of_parts n (used_key options env owns)) (used_value (used_region options env owns))) name
         ∙ ap₂ (settings_of_parts profile.name) same_key same_region
 
--- what is told is what is chosen
-pub told_chosen : (options : OptionValues) (env : List (List ℕ × List ℕ)) (files : List FileText) → told_choice options env (own_profiles (asked_profile options env) files)
+-- what is printed is what is chosen
+pub printed_chosen : (options : OptionValues) (env : List (List ℕ × List ℕ)) (files : List FileText) → printed_choice options env (own_profiles (asked_profile options env) files)
     ≡ choice_by (has options (codes "--profile")) (last_value options (codes "--region")) env (profile_of (sections files) (asked_profile options env))
-told_chosen options env files = by (own_profiles (asked_profile options env) files) refl
+printed_chosen options env files = by (own_profiles (asked_profile options env) files) refl
   where
     name : List ℕ
     name = asked_profile options env
@@ -260,7 +260,7 @@ told_chosen options env files = by (own_profiles (asked_profile options env) fil
     choice : Result Profile Lack → Result ChosenSettings Lack
     choice profile = choice_by (has options (codes "--profile")) (last_value options (codes "--region")) env profile
 
-    by : (planned : Result (List Own) Lack) → own_profiles name files ≡ planned → told_choice options env planned ≡ choice (profile_of (sections files) name)
+    by : (planned : Result (List Own) Lack) → own_profiles name files ≡ planned → printed_choice options env planned ≡ choice (profile_of (sections files) name)
     by (Err lack) is = ap choice (sym (faulty_alike name files lack is))
     by (Ok owns) is =
         let given = profile_given name files owns is in

@@ -9,7 +9,7 @@ use Rattle.awsign_run.specs.declared.status.Status.{Status}
 use Rattle.awsign_run.specs.declared.status.Status.TheVariants.{Done, BadWord, CouldNotReadFile, DataFault, Refused, OutputFault, NoMemory}
 use Rattle.awsign_settings.specs.Own.{Own, own_profiles}
 use Rattle.awsign_settings.specs.Settings.{Used, UsedSettings, given_choice, used_settings}
-use Rattle.awsign_settings.specs.Told.{settings_text}
+use Rattle.awsign_settings.specs.Lines.{settings_text}
 
 -- ## What can be signed
 
@@ -31,34 +31,34 @@ region_refusal (Some region) = if length region.value == 0 then Some empty_regio
 
 -- the text of the settings was written, and by them a request can be signed, or this is why it can't; or a part of the text, where the output failed or
 -- memory ran out
-abbrev pub TellsText : List ℕ → Option SignRefusal → Status → Option (List ℕ) → Option (List ℕ) → Type 0
-TellsText text refusal Done before now = Gains before now text × (refusal ≡ None)
-TellsText text refusal (Refused fault) before now = Gains before now text × (refusal ≡ Some (refusal_of fault))
-TellsText text refusal OutputFault before now = GainsProperPrefix before now text
-TellsText text refusal NoMemory before now = (now ≡ before) ⊎ GainsProperPrefix before now text
-TellsText text refusal (BadWord place) before now = ⊥
-TellsText text refusal (CouldNotReadFile path) before now = ⊥
-TellsText text refusal DataFault before now = ⊥
+abbrev pub PrintsText : List ℕ → Option SignRefusal → Status → Option (List ℕ) → Option (List ℕ) → Type 0
+PrintsText text refusal Done before now = Gains before now text × (refusal ≡ None)
+PrintsText text refusal (Refused fault) before now = Gains before now text × (refusal ≡ Some (refusal_of fault))
+PrintsText text refusal OutputFault before now = GainsProperPrefix before now text
+PrintsText text refusal NoMemory before now = (now ≡ before) ⊎ GainsProperPrefix before now text
+PrintsText text refusal (BadWord place) before now = ⊥
+PrintsText text refusal (CouldNotReadFile path) before now = ⊥
+PrintsText text refusal DataFault before now = ⊥
 
--- the settings were told by what each profile file has by itself; the files are at these paths
-abbrev pub TellsOwns : List ℕ → OptionValues → List (List ℕ × List ℕ) → List Own → Status → Option (List ℕ) → Option (List ℕ) → Type 0
-TellsOwns paths options env owns =
-    TellsText (settings_text paths (used_settings options env owns)) (settings_refusal paths (used_settings options env owns))
+-- the settings were printed by what each profile file has by itself; the files are at these paths
+abbrev pub PrintsOwns : List ℕ → OptionValues → List (List ℕ × List ℕ) → List Own → Status → Option (List ℕ) → Option (List ℕ) → Type 0
+PrintsOwns paths options env owns =
+    PrintsText (settings_text paths (used_settings options env owns)) (settings_refusal paths (used_settings options env owns))
 
 -- nothing was written, for this reason or since memory ran out
-abbrev pub TellsNothing : SignRefusal → Status → Option (List ℕ) → Option (List ℕ) → Type 0
-TellsNothing refusal (Refused fault) before now = (refusal ≡ refusal_of fault) × (now ≡ before)
-TellsNothing refusal NoMemory before now = now ≡ before
-TellsNothing refusal status before now = ⊥
+abbrev pub PrintsNothing : SignRefusal → Status → Option (List ℕ) → Option (List ℕ) → Type 0
+PrintsNothing refusal (Refused fault) before now = (refusal ≡ refusal_of fault) × (now ≡ before)
+PrintsNothing refusal NoMemory before now = now ≡ before
+PrintsNothing refusal status before now = ⊥
 
--- the settings were told by what each profile file has by itself, or a file has a faulty line
-abbrev pub TellsBy : List ℕ → OptionValues → List (List ℕ × List ℕ) → Result (List Own) Lack → Status → Option (List ℕ) → Option (List ℕ) → Type 0
-TellsBy paths options env (Ok owns) status before now = TellsOwns paths options env owns status before now
-TellsBy paths options env (Err lack) status before now = TellsNothing (lack_refusal paths lack) status before now
+-- the settings were printed by what each profile file has by itself, or a file has a faulty line
+abbrev pub PrintsBy : List ℕ → OptionValues → List (List ℕ × List ℕ) → Result (List Own) Lack → Status → Option (List ℕ) → Option (List ℕ) → Type 0
+PrintsBy paths options env (Ok owns) status before now = PrintsOwns paths options env owns status before now
+PrintsBy paths options env (Err lack) status before now = PrintsNothing (lack_refusal paths lack) status before now
 
--- the settings were told by the texts of profile files
-abbrev pub TellsFiles : OptionValues → List (List ℕ × List ℕ) → List FileText → Status → Option (List ℕ) → Option (List ℕ) → Type 0
-TellsFiles options env files = TellsBy (file_paths files) options env (own_profiles (asked_profile options env) files)
+-- the settings were printed by the texts of profile files
+abbrev pub PrintsFiles : OptionValues → List (List ℕ × List ℕ) → List FileText → Status → Option (List ℕ) → Option (List ℕ) → Type 0
+PrintsFiles options env files = PrintsBy (file_paths files) options env (own_profiles (asked_profile options env) files)
 
 -- a file couldn't be read, at a path that `unread` tells of, or memory ran out
 abbrev pub IsUnreadStatus : (List ℕ → Type 0) → Status → Type 0
@@ -66,7 +66,7 @@ IsUnreadStatus unread (CouldNotReadFile path) = unread (string_bytes path)
 IsUnreadStatus unread NoMemory = Unit {0}
 IsUnreadStatus unread status = ⊥
 
--- the settings were told by texts of files that `gave` tells of, or these aren't there and nothing was written
+-- the settings were printed by texts of files that `gave` tells of, or these aren't there and nothing was written
 abbrev pub RanSettings : (List FileText → Type 0) → (List ℕ → Type 0) → OptionValues → List (List ℕ × List ℕ) → Status → Option (List ℕ) → Option (List ℕ) → Type 0
 RanSettings gave unread options env status before now =
-    ((files : List FileText) × gave files × TellsFiles options env files status before now) ⊎ (IsUnreadStatus unread status × (now ≡ before))
+    ((files : List FileText) × gave files × PrintsFiles options env files status before now) ⊎ (IsUnreadStatus unread status × (now ≡ before))

@@ -7,12 +7,12 @@ ghost use Rattle.awsign_run.specs.Chosen.{asked_profile, file_paths, refusal_of}
 ghost use Rattle.awsign_run.specs.Run.{asked_places};
 ghost use Rattle.awsign_settings.specs.Own.{own_of};
 ghost use Rattle.awsign_settings.specs.Settings.{used_of, used_settings_of};
-ghost use Rattle.awsign_settings.specs.Told.{settings_text};
-ghost use Rattle.awsign_settings.specs.SettingsRun.{RanSettings, TellsFiles, TellsOwns, TellsText, region_refusal, settings_refusal};
+ghost use Rattle.awsign_settings.specs.Lines.{settings_text};
+ghost use Rattle.awsign_settings.specs.SettingsRun.{RanSettings, PrintsFiles, PrintsOwns, PrintsText, region_refusal, settings_refusal};
 
+use crate::lines::settings_text;
 use crate::own::{OwnProfile, own_profiles};
 use crate::settings::{Settings, lack, settings_of};
-use crate::told::settings_text;
 use awsign_run::{Fault, Status, file_paths, load_source};
 use env_config::Source;
 use smithy_core::{ByteSink, Disk, Env, Mem, write_all};
@@ -43,13 +43,13 @@ pub fn run_settings<D: Disk, K: ByteSink>(
     ensures failed { CountsFault (result ≡ Status.OutputFault) (K.faults out.old) (K.faults out.new) }
 {
     match load_source(alloc, env, disk, options) {
-        Ok(source) => tell_source(alloc, options, env, &source, out),
+        Ok(source) => print_source(alloc, options, env, &source, out),
         Err(fault) => Status::from(fault),
     }
 }
 
 // Prints the settings by the texts of profile files.
-fn tell_source<K: ByteSink>(
+fn print_source<K: ByteSink>(
     alloc: Global,
     options: &Env,
     env: &Env,
@@ -57,11 +57,11 @@ fn tell_source<K: ByteSink>(
     out: &mut K,
 ) -> Status
     requires { string_bytes source.now.profile ≡ asked_profile options.now env.now }
-    ensures tells { TellsFiles options.now env.now (map file_of source.now.files.items) result (K.held out.old) (K.held out.new) }
+    ensures prints { PrintsFiles options.now env.now (map file_of source.now.files.items) result (K.held out.old) (K.held out.new) }
     ensures failed { CountsFault (result ≡ Status.OutputFault) (K.faults out.old) (K.faults out.new) }
 {
     match own_profiles(alloc, source) {
-        Ok(owns) => tell_owns(alloc, options, env, source, owns.as_slice(), out),
+        Ok(owns) => print_owns(alloc, options, env, source, owns.as_slice(), out),
         Err(fault) => match Fault::lacking(alloc, fault, source) {
             Ok(fault) => Status::Refused(fault),
             Err(_) => Status::NoMemory,
@@ -70,7 +70,7 @@ fn tell_source<K: ByteSink>(
 }
 
 // Prints the settings by what each profile file has by itself.
-fn tell_owns<K: ByteSink>(
+fn print_owns<K: ByteSink>(
     alloc: Global,
     options: &Env,
     env: &Env,
@@ -78,24 +78,24 @@ fn tell_owns<K: ByteSink>(
     owns: &[OwnProfile],
     out: &mut K,
 ) -> Status
-    ensures tells { TellsOwns (file_paths (map file_of source.now.files.items)) options.now env.now (map own_of owns.now) result (K.held out.old) (K.held out.new) }
+    ensures prints { PrintsOwns (file_paths (map file_of source.now.files.items)) options.now env.now (map own_of owns.now) result (K.held out.old) (K.held out.new) }
     ensures failed { CountsFault (result ≡ Status.OutputFault) (K.faults out.old) (K.faults out.new) }
 {
     match settings_of(alloc, options, env, owns) {
-        Ok(settings) => tell_settings(alloc, &settings, source, out),
+        Ok(settings) => print_settings(alloc, &settings, source, out),
         Err(_) => Status::NoMemory,
     }
 }
 
 // Prints settings.
-fn tell_settings<K: ByteSink>(
+fn print_settings<K: ByteSink>(
     alloc: Global,
     settings: &Settings<'_>,
     source: &Source,
     out: &mut K,
 ) -> Status
-    ensures tells { let settings = used_settings_of settings.now in let paths = file_paths (map file_of source.now.files.items) in
-        TellsText (settings_text paths settings) (settings_refusal paths settings) result (K.held out.old) (K.held out.new) }
+    ensures prints { let settings = used_settings_of settings.now in let paths = file_paths (map file_of source.now.files.items) in
+        PrintsText (settings_text paths settings) (settings_refusal paths settings) result (K.held out.old) (K.held out.new) }
     ensures failed { CountsFault (result ≡ Status.OutputFault) (K.faults out.old) (K.faults out.new) }
 {
     let Ok(refusal) = refusal_of(alloc, settings, source) else {
@@ -105,7 +105,7 @@ fn tell_settings<K: ByteSink>(
         return Status::NoMemory;
     };
     match settings_text(alloc, settings, paths.as_str()) {
-        Ok(text) => tell(text.as_slice(), refusal, out),
+        Ok(text) => print_text(text.as_slice(), refusal, out),
         Err(_) => Status::NoMemory,
     }
 }
@@ -131,8 +131,8 @@ fn region_refusal(settings: &Settings<'_>) -> Option<Fault>
 }
 
 // Writes the text, and answers how that went, or why nothing can be signed.
-fn tell<K: ByteSink>(text: &[u8], refusal: Option<Fault>, out: &mut K) -> Status
-    ensures tells { TellsText text.now (option_map refusal_of refusal) result (K.held out.old) (K.held out.new) }
+fn print_text<K: ByteSink>(text: &[u8], refusal: Option<Fault>, out: &mut K) -> Status
+    ensures prints { PrintsText text.now (option_map refusal_of refusal) result (K.held out.old) (K.held out.new) }
     ensures failed { CountsFault (result ≡ Status.OutputFault) (K.faults out.old) (K.faults out.new) }
 {
     match write_all(out, text) {

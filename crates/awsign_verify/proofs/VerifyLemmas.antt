@@ -10,27 +10,29 @@ use Rattle.awsign_words.specs.Words.{OptionValues}
 use Rattle.awsign_run.specs.Chosen.{IsFaultOf, SignRefusal, SignsFor, refusal_of}
 use Rattle.awsign_run.specs.declared.fault.Fault.{Fault}
 use Rattle.awsign_run.specs.declared.fault.Fault.TheVariants as run
-use Rattle.awsign_verify.specs.Verify.{Judges, JudgesFor, door_verify_fault, signer_verify_fault, verify_input}
-use Rattle.awsign_verify.specs.declared.fault.VerifyFault.TheVariants.{NoMemory}
+use Rattle.awsign_run.specs.declared.status.Status.TheVariants.{NoMemory}
+use Rattle.awsign_run.specs.Status.{fault_status}
+use Rattle.awsign_verify.specs.Verify.{Judges, JudgesFor, door_verify_status, verify_input}
+use Rattle.awsign_verify.specs.declared.status.VerifyStatus.TheVariants.{Ended}
 
 module _ (options : OptionValues) (request : HttpRequest) (body : List ℕ) (at : Instant) where
   -- a request that its service doesn't let in
   pub not_admitted : (signer : SignsFor) (fault : DoorFault) → AnswersDoor (verify_input options signer request body at) (Err fault)
-      → Judges options signer request body at (Err (door_verify_fault fault))
+      → Judges options signer request body at (Err (door_verify_status fault))
   not_admitted signer door.NoMemory answers = tt
   not_admitted signer fault answers = answers
 
   -- memory may always run out
-  out_of_memory : (planned : Result SignsFor SignRefusal) → JudgesFor options planned request body at (Err NoMemory)
+  out_of_memory : (planned : Result SignsFor SignRefusal) → JudgesFor options planned request body at (Err (Ended NoMemory))
   out_of_memory (Ok signer) = tt
   out_of_memory (Err refusal) = tt
 
   -- why nobody is chosen
-  refused : (fault : Fault) → JudgesFor options (Err (refusal_of fault)) request body at (Err (signer_verify_fault fault))
+  refused : (fault : Fault) → JudgesFor options (Err (refusal_of fault)) request body at (Err (Ended (fault_status fault)))
   refused run.NoMemory = tt
   refused fault = refl
 
   -- nobody is chosen
-  pub signer_lacks : (planned : Result SignsFor SignRefusal) (fault : Fault) → IsFaultOf planned fault → JudgesFor options planned request body at (Err (signer_verify_fault fault))
+  pub signer_lacks : (planned : Result SignsFor SignRefusal) (fault : Fault) → IsFaultOf planned fault → JudgesFor options planned request body at (Err (Ended (fault_status fault)))
   signer_lacks planned fault (inl is) = rw is (refused fault)
   signer_lacks planned fault (inr is) = rw is (out_of_memory planned)

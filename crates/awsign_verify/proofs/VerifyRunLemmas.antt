@@ -10,44 +10,43 @@ use Rattle.env_config.specs.Sections.{FileText}
 use Rattle.env_config.specs.declared.load_fault.EnvConfigFileLoadError.{EnvConfigFileLoadError}
 use Rattle.env_config.specs.declared.load_fault.EnvConfigFileLoadError.TheVariants as load
 use Rattle.awsign_run.specs.Run.{LoadsAsked}
+use Rattle.awsign_run.specs.Status.{load_status}
+use Rattle.awsign_run.specs.declared.status.Status.TheVariants.{Done, NoMemory, OutputFault}
 use Rattle.awsign_words.specs.Words.{VerifyWanted}
-use Rattle.awsign_verify.specs.VerifyRun.{IsFileFault, IsInputFault, JudgesInput, RanVerify, ReceivesAsked, ReceivesMessage, WritesText, load_verify_fault, most_message, read_verify_fault}
-use Rattle.awsign_verify.specs.declared.fault.VerifyFault.{VerifyFault}
-use Rattle.awsign_verify.specs.declared.fault.VerifyFault.TheVariants.{BadLine, InputFault, TooLarge, CouldNotReadFile, Refused, Wrong, NoMemory}
+use Rattle.awsign_verify.specs.VerifyRun.{IsFileFault, IsInputFault, JudgesInput, RanVerify, ReceivesAsked, ReceivesMessage, WritesText, most_message, read_verify_status}
 use Rattle.awsign_verify.specs.declared.run.Received.{Received}
 use Rattle.awsign_verify.specs.declared.status.VerifyStatus.{VerifyStatus}
-use Rattle.awsign_verify.specs.declared.status.VerifyStatus.TheVariants.{Done, NotVerified, OutputFault}
+use Rattle.awsign_verify.specs.declared.status.VerifyStatus.TheVariants.{BadLine, Ended, InputFault, TooLarge, Wrong}
 
 -- profile files that aren't loaded
 pub files_lack : (gave : List FileText → Type 0) (unread : List ℕ → Type 0) (name : List ℕ) (error : EnvConfigFileLoadError) → LoadsAsked gave unread name (Err error)
-    → IsFileFault unread (load_verify_fault error)
+    → IsFileFault unread (Ended (load_status error))
 files_lack gave unread name (load.CouldNotReadFile fault) is = is
 files_lack gave unread name (load.ParseError error) is = elim is [ ]
 files_lack gave unread name load.NoMemory is = tt
 
 -- an input that isn't read
 pub input_lacks : (verify_wanted : VerifyWanted) (left : Option (List ℕ)) (fault : ReadFault) → verify_wanted.named ≡ None
-    → (fault ≡ read.TooLarge → IsLongerThan left most_message) → IsInputFault verify_wanted left (read_verify_fault fault)
+    → (fault ≡ read.TooLarge → IsLongerThan left most_message) → IsInputFault verify_wanted left (read_verify_status fault)
 input_lacks verify_wanted left read.Failed none longer = none
 input_lacks verify_wanted left read.TooLarge none longer = (none, longer refl)
 input_lacks verify_wanted left read.NoMemory none longer = tt
 
 -- the request of bytes that are all of the input
-pub received_all : (verify_wanted : VerifyWanted) (left : Option (List ℕ)) (bytes : List ℕ) (result : Result Received VerifyFault) → verify_wanted.named ≡ None → IsAllOf left bytes
+pub received_all : (verify_wanted : VerifyWanted) (left : Option (List ℕ)) (bytes : List ℕ) (result : Result Received VerifyStatus) → verify_wanted.named ≡ None → IsAllOf left bytes
     → ReceivesMessage bytes result → ReceivesAsked verify_wanted left result
 received_all verify_wanted left bytes (Ok received) none all receives = rw (none, receives.0) (all, receives.1)
 received_all verify_wanted left bytes (Err (BadLine place)) none all receives = rw none (bytes, all, receives)
-received_all verify_wanted left bytes (Err NoMemory) none all receives = tt
+received_all verify_wanted left bytes (Err (Ended NoMemory)) none all receives = tt
+received_all verify_wanted left bytes (Err (Ended status)) none all receives = elim receives [ ]
 received_all verify_wanted left bytes (Err InputFault) none all receives = elim receives [ ]
 received_all verify_wanted left bytes (Err TooLarge) none all receives = elim receives [ ]
-received_all verify_wanted left bytes (Err (CouldNotReadFile path)) none all receives = elim receives [ ]
-received_all verify_wanted left bytes (Err (Refused fault)) none all receives = elim receives [ ]
 received_all verify_wanted left bytes (Err (Wrong fault)) none all receives = elim receives [ ]
 
 module _ (moment : Instant → Type 0) (env : List (List ℕ × List ℕ)) (gave : List FileText → Type 0) (unread : List ℕ → Type 0) (verify_wanted : VerifyWanted) (left : Option (List ℕ)) where
   -- a text was written
   pub text_written : (text : Vec ℕ) (status : VerifyStatus) (before now : Option (List ℕ)) → JudgesInput moment env gave unread verify_wanted left (Ok text)
       → WritesText text.items status before now → RanVerify moment env gave unread verify_wanted left status before now
-  text_written text Done before now judges writes = (text, judges, writes)
-  text_written text OutputFault before now judges writes = (text, judges, writes)
-  text_written text (NotVerified fault) before now judges writes = inr (writes.0, (text, judges, writes.1))
+  text_written text (Ended Done) before now judges writes = (text, judges, writes)
+  text_written text (Ended OutputFault) before now judges writes = (text, judges, writes)
+  text_written text status before now judges writes = inr (writes.0, (text, judges, writes.1))

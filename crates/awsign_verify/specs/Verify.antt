@@ -24,10 +24,9 @@ use Rattle.aws_settings.specs.Choice.{ChosenKey}
 use Rattle.awsign_run.specs.Chosen.{SignRefusal, SignsFor, asked_profile, refusal_of, signer_by}
 use Rattle.awsign_run.specs.Guess.{url_host}
 use Rattle.awsign_run.specs.Signing.{is_s3, usual_settings}
-use Rattle.awsign_run.specs.declared.fault.Fault.{Fault}
-use Rattle.awsign_run.specs.declared.fault.Fault.TheVariants as run
-use Rattle.awsign_verify.specs.declared.fault.VerifyFault.{VerifyFault}
-use Rattle.awsign_verify.specs.declared.fault.VerifyFault.TheVariants.{Refused, Wrong, NoMemory}
+use Rattle.awsign_run.specs.declared.status.Status.TheVariants.{Refused, NoMemory}
+use Rattle.awsign_verify.specs.declared.status.VerifyStatus.{VerifyStatus}
+use Rattle.awsign_verify.specs.declared.status.VerifyStatus.TheVariants.{Ended, Wrong}
 
 -- ## What a service is asked
 
@@ -74,23 +73,23 @@ whole_second secs = record { secs = secs; nanos = 0 }
 unfoldable pub second_text : ℤ → List ℕ
 second_text secs = if is_in_years (whole_second secs) then formatted DateTime (whole_second secs) else signed_decimal secs
 
--- a line: what is told, and its value
-abbrev pub told_line : List ℕ → List ℕ → List ℕ
-told_line name value = line (name ++ (codes " " ++ value))
+-- a line: a name, and its value
+abbrev pub named_line : List ℕ → List ℕ → List ℕ
+named_line name value = line (name ++ (codes " " ++ value))
 
 -- who signed, for what, and where that stands
 unfoldable pub who_lines : SignsFor → Admitted → List ℕ
 who_lines signer admitted =
-    told_line (codes "key") (string_bytes admitted.key_id) ++ (told_line (codes "region") signer.region
-    ++ (told_line (codes "service") signer.service ++ told_line (codes "place") (place_word admitted.place)))
+    named_line (codes "key") (string_bytes admitted.key_id) ++ (named_line (codes "region") signer.region
+    ++ (named_line (codes "service") signer.service ++ named_line (codes "place") (place_word admitted.place)))
 
 -- when it was signed and until when it is good, the signed headers, and the payload
 unfoldable pub what_lines : Admitted → List ℕ
 what_lines admitted =
-    told_line (codes "signed") (second_text admitted.at.secs) ++ (told_line (codes "until") (second_text admitted.until)
-    ++ (told_line (codes "headers") (string_bytes admitted.names) ++ told_line (codes "payload") (payload_words admitted.payload)))
+    named_line (codes "signed") (second_text admitted.at.secs) ++ (named_line (codes "until") (second_text admitted.until)
+    ++ (named_line (codes "headers") (string_bytes admitted.names) ++ named_line (codes "payload") (payload_words admitted.payload)))
 
--- what is told of a request that a service lets in
+-- what is printed of a request that a service lets in
 abbrev pub verified_text : SignsFor → Admitted → List ℕ
 verified_text signer admitted = who_lines signer admitted ++ what_lines admitted
 
@@ -100,29 +99,24 @@ verified_text signer admitted = who_lines signer admitted ++ what_lines admitted
 unfoldable pub request_host : List (List ℕ × List ℕ) → List ℕ → List ℕ
 request_host headers target = unwrap_or (first_value headers (codes "host")) (url_host target)
 
--- the fault of a request that a service doesn't let in
-abbrev pub door_verify_fault : DoorFault → VerifyFault
-door_verify_fault door.NoMemory = NoMemory
-door_verify_fault fault = Wrong fault
+-- how a run ends at a request that a service doesn't let in
+abbrev pub door_verify_status : DoorFault → VerifyStatus
+door_verify_status door.NoMemory = Ended NoMemory
+door_verify_status fault = Wrong fault
 
--- the fault where nobody's key is chosen
-abbrev pub signer_verify_fault : Fault → VerifyFault
-signer_verify_fault run.NoMemory = NoMemory
-signer_verify_fault fault = Refused fault
-
--- what is told of a request that the service of a signer lets in, or the first of its tests that it meets; or memory ran out
-abbrev pub Judges : OptionValues → SignsFor → HttpRequest → List ℕ → Instant → Result (Vec ℕ) VerifyFault → Type 0
+-- what is printed of a request that the service of a signer lets in, or the first of its tests that it meets; or memory ran out
+abbrev pub Judges : OptionValues → SignsFor → HttpRequest → List ℕ → Instant → Result (Vec ℕ) VerifyStatus → Type 0
 Judges options signer request body at (Ok text) =
     (admitted : Admitted) × AnswersDoor (verify_input options signer request body at) (Ok admitted) × (text.items ≡ verified_text signer admitted)
 Judges options signer request body at (Err (Wrong fault)) = AnswersDoor (verify_input options signer request body at) (Err fault)
-Judges options signer request body at (Err NoMemory) = Unit {0}
-Judges options signer request body at (Err fault) = ⊥
+Judges options signer request body at (Err (Ended NoMemory)) = Unit {0}
+Judges options signer request body at (Err status) = ⊥
 
 -- the same for the service of who is chosen, or why nobody is
-abbrev pub JudgesFor : OptionValues → Result SignsFor SignRefusal → HttpRequest → List ℕ → Instant → Result (Vec ℕ) VerifyFault → Type 0
+abbrev pub JudgesFor : OptionValues → Result SignsFor SignRefusal → HttpRequest → List ℕ → Instant → Result (Vec ℕ) VerifyStatus → Type 0
 JudgesFor options (Ok signer) request body at result = Judges options signer request body at result
-JudgesFor options (Err refusal) request body at (Err (Refused fault)) = refusal_of fault ≡ refusal
-JudgesFor options (Err refusal) request body at (Err NoMemory) = Unit {0}
+JudgesFor options (Err refusal) request body at (Err (Ended (Refused fault))) = refusal_of fault ≡ refusal
+JudgesFor options (Err refusal) request body at (Err (Ended NoMemory)) = Unit {0}
 JudgesFor options (Err refusal) request body at result = ⊥
 
 -- who is chosen for a request, by options, variables and the texts of profile files
@@ -131,6 +125,6 @@ verify_signer options env files request =
     signer_by options (request_host request.headers (string_bytes request.target)) env (asked_profile options env) files
 
 -- the same with the texts of profile files, at a moment that `moment` tells of
-abbrev pub JudgesBy : (Instant → Type 0) → OptionValues → List (List ℕ × List ℕ) → List FileText → HttpRequest → List ℕ → Result (Vec ℕ) VerifyFault → Type 0
+abbrev pub JudgesBy : (Instant → Type 0) → OptionValues → List (List ℕ × List ℕ) → List FileText → HttpRequest → List ℕ → Result (Vec ℕ) VerifyStatus → Type 0
 JudgesBy moment options env files request body result =
     (at : Instant) × moment at × JudgesFor options (verify_signer options env files request) request body at result

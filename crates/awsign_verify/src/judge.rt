@@ -8,8 +8,8 @@ ghost use Rattle.awsign_run.specs.Chosen.{asked_profile, signs_for_of};
 ghost use Rattle.awsign_run.specs.Run.{TakesAskedMoment, asked_moment};
 ghost use Rattle.awsign_verify.specs.Verify.{Judges, JudgesBy, JudgesFor, request_host, verify_input, verify_signer};
 
-use crate::fault::VerifyFault;
-use crate::told::verified_text;
+use crate::lines::verified_text;
+use crate::status::VerifyStatus;
 use awsign_run::{Chosen, is_s3, moment_asked, moment_of, signer_for, url_host, usual_settings};
 use env_config::Source;
 use request_door::{Admitted, DoorFault, KeyList, Limits, admit};
@@ -21,7 +21,7 @@ use std::alloc::Global;
 ///
 /// # Errors
 ///
-/// [`VerifyFault::Refused`] as [`signer_for`](awsign_run::signer_for) has it, and [`VerifyFault::Wrong`] with the first test of
+/// [`Status::Refused`](awsign_run::Status) as [`signer_for`](awsign_run::signer_for) has it, and [`VerifyStatus::Wrong`] with the first test of
 /// [`admit`](request_door::admit) that the request meets.
 pub(crate) fn judge<C: Clock>(
     alloc: Global,
@@ -31,7 +31,7 @@ pub(crate) fn judge<C: Clock>(
     request: &HttpRequest,
     body: &[u8],
     clock: &mut C,
-) -> Result<Vec<u8>, VerifyFault>
+) -> Result<Vec<u8>, VerifyStatus>
     requires { string_bytes source.now.profile ≡ asked_profile options.now env.now }
     ensures { JudgesBy (TakesAskedMoment (λ taken. Gives C.Clock clock.old taken clock.new) (asked_moment options.now)) options.now env.now
         (map file_of source.now.files.items) request.now body.now result }
@@ -49,14 +49,14 @@ fn judge_at(
     request: &HttpRequest,
     body: &[u8],
     at: Moment,
-) -> Result<Vec<u8>, VerifyFault>
+) -> Result<Vec<u8>, VerifyStatus>
     requires { string_bytes source.now.profile ≡ asked_profile options.now env.now }
     ensures { JudgesFor options.now (verify_signer options.now env.now (map file_of source.now.files.items) request.now) request.now body.now at result }
 {
     let host = request_host(request);
     match signer_for(alloc, options, host, env, source) {
         Ok(signer) => judge_for(alloc, options, &signer, request, body, at),
-        Err(fault) => Err(VerifyFault::from(fault)),
+        Err(fault) => Err(VerifyStatus::from(fault)),
     }
 }
 
@@ -71,7 +71,7 @@ fn request_host(request: &HttpRequest) -> &str
     }
 }
 
-// What is told of a request at the service of a signer.
+// What is printed of a request at the service of a signer.
 fn judge_for(
     alloc: Global,
     options: &Env,
@@ -79,12 +79,12 @@ fn judge_for(
     request: &HttpRequest,
     body: &[u8],
     at: Moment,
-) -> Result<Vec<u8>, VerifyFault>
+) -> Result<Vec<u8>, VerifyStatus>
     ensures { Judges options.now (signs_for_of signer.now) request.now body.now at result }
 {
     match admit_for(alloc, options, signer, request, body, at) {
         Ok(admitted) => Ok(verified_text(alloc, signer, &admitted)?),
-        Err(fault) => Err(VerifyFault::from(fault)),
+        Err(fault) => Err(VerifyStatus::from(fault)),
     }
 }
 

@@ -6,17 +6,15 @@
 //! the output is as it was (`specs/VerifyRun.antt`, and below it `specs/Verify.antt` and `specs/Message.antt`).
 #![tactic(auto)]
 
-mod fault;
 mod judge;
+mod lines;
 mod message;
 mod run;
 mod saying;
 mod status;
-mod told;
 
-pub use crate::fault::VerifyFault;
+pub use crate::lines::verified_text;
 pub use crate::message::{HeadDraft, message_body, read_message};
 pub use crate::run::{Received, run_verify};
 pub use crate::saying::say_verify;
 pub use crate::status::VerifyStatus;
-pub use crate::told::verified_text;

@@ -8,11 +8,10 @@ ghost use Rattle.awsign_words.specs.Words.{verify_wanted};
 ghost use Rattle.awsign_verify.specs.Message.{head_parts, message_body};
 ghost use Rattle.awsign_verify.specs.VerifyRun.{JudgesInput, JudgesRequest, RanVerify, ReceivesAsked, ReceivesMessage, WritesText};
 
-use crate::fault::VerifyFault;
 use crate::judge::judge;
 use crate::message::{message_body, read_message};
 use crate::status::VerifyStatus;
-use awsign_run::load_source;
+use awsign_run::{Status, load_source};
 use awsign_words::VerifyAsked;
 use job_text::JobFault;
 use smithy_core::{
@@ -56,21 +55,21 @@ pub fn run_verify<S: ByteSource, D: Disk, C: Clock, K: ByteSink>(
         × (K.faults out.old ≤ K.faults out.new) }
 
     // It answers that the output failed exactly where that counted a fault.
-    ensures failed { CountsFault (result ≡ VerifyStatus.OutputFault) (K.faults out.old) (K.faults out.new) }
+    ensures failed { CountsFault (result ≡ VerifyStatus.Ended Status.OutputFault) (K.faults out.old) (K.faults out.new) }
 {
     match judge_input(alloc, asked, env, input, disk, clock) {
         Ok(text) => write_verified(text.as_slice(), out),
-        Err(fault) => VerifyStatus::NotVerified(fault),
+        Err(status) => status,
     }
 }
 
 // Writes a text, and answers how that went.
 fn write_verified<K: ByteSink>(text: &[u8], out: &mut K) -> VerifyStatus
     ensures wrote { WritesText text.now result (K.held out.old) (K.held out.new) }
-    ensures failed { CountsFault (result ≡ VerifyStatus.OutputFault) (K.faults out.old) (K.faults out.new) }
+    ensures failed { CountsFault (result ≡ VerifyStatus.Ended Status.OutputFault) (K.faults out.old) (K.faults out.new) }
 {
     match write_all(out, text) {
-        Ok(()) => VerifyStatus::Done,
+        Ok(()) => VerifyStatus::Ended(Status::Done),
         Err(fault) => VerifyStatus::from(fault),
     }
 }
@@ -83,7 +82,7 @@ fn judge_input<S: ByteSource, D: Disk, C: Clock>(
     input: &mut S,
     disk: &mut D,
     clock: &mut C,
-) -> Result<Vec<u8>, VerifyFault>
+) -> Result<Vec<u8>, VerifyStatus>
     ensures judges { JudgesInput (TakesAskedMoment (λ taken. Gives C.Clock clock.old taken clock.new) (asked_moment asked.now.options)) env.now
         (Loaded D.answers D.faults (D.files disk.old) env.now (asked_places asked.now.options) disk.old disk.new)
         (StopsAtFile D.answers D.faults (D.files disk.old) env.now (asked_places asked.now.options) disk.old disk.new)
@@ -92,7 +91,7 @@ fn judge_input<S: ByteSource, D: Disk, C: Clock>(
 {
     match receive(alloc, asked, input) {
         Ok(received) => judge_received(alloc, &asked.options, env, &received, disk, clock),
-        Err(fault) => Err(fault),
+        Err(status) => Err(status),
     }
 }
 
@@ -104,7 +103,7 @@ fn judge_received<D: Disk, C: Clock>(
     received: &Received,
     disk: &mut D,
     clock: &mut C,
-) -> Result<Vec<u8>, VerifyFault>
+) -> Result<Vec<u8>, VerifyStatus>
     ensures judges { JudgesRequest (TakesAskedMoment (λ taken. Gives C.Clock clock.old taken clock.new) (asked_moment options.now)) env.now
         (Loaded D.answers D.faults (D.files disk.old) env.now (asked_places options.now) disk.old disk.new)
         (StopsAtFile D.answers D.faults (D.files disk.old) env.now (asked_places options.now) disk.old disk.new)
@@ -116,7 +115,7 @@ fn judge_received<D: Disk, C: Clock>(
             let body = message_body(received.bytes.as_slice());
             judge(alloc, options, env, &source, &received.request, body, clock)
         }
-        Err(fault) => Err(VerifyFault::from(fault)),
+        Err(fault) => Err(VerifyStatus::from(fault)),
     }
 }
 
@@ -125,7 +124,7 @@ fn receive<S: ByteSource>(
     alloc: Global,
     asked: &VerifyAsked<'_>,
     input: &mut S,
-) -> Result<Received, VerifyFault>
+) -> Result<Received, VerifyStatus>
     ensures receives { ReceivesAsked (verify_wanted asked.now) (S.left input.old) result }
     ensures count { S.faults input.old ≤ S.faults input.new }
 {
@@ -136,19 +135,19 @@ fn receive<S: ByteSource>(
         }),
         None => match read_all(alloc, input, MOST_MESSAGE) {
             Ok(bytes) => received_of(alloc, bytes),
-            Err(fault) => Err(VerifyFault::from(fault)),
+            Err(fault) => Err(VerifyStatus::from(fault)),
         },
     }
 }
 
 // The request that the bytes spell.
-fn received_of(alloc: Global, bytes: Vec<u8>) -> Result<Received, VerifyFault>
+fn received_of(alloc: Global, bytes: Vec<u8>) -> Result<Received, VerifyStatus>
     ensures { ReceivesMessage bytes.items result }
 {
     match read_message(alloc, bytes.as_slice()) {
         Ok(request) => Ok(Received { request, bytes }),
-        Err(JobFault::BadLine(place)) => Err(VerifyFault::BadLine(place)),
-        Err(JobFault::NoMemory) => Err(VerifyFault::NoMemory),
+        Err(JobFault::BadLine(place)) => Err(VerifyStatus::BadLine(place)),
+        Err(JobFault::NoMemory) => Err(VerifyStatus::Ended(Status::NoMemory)),
     }
 }
 

@@ -1,19 +1,23 @@
 //! How a run ends.
-ghost use Rattle.std.specs.Prelude.{◌≡◌};
-ghost use Rattle.awsign_verify.specs.VerifySaying.{verify_fault_code};
-
-use crate::fault::VerifyFault;
-use smithy_core::SinkError;
+use awsign_run::{Fault, Status};
+use env_config::EnvConfigFileLoadError;
+use request_door::DoorFault;
+use smithy_core::{ReadFault, SinkError};
+use std::alloc::AllocError;
 
 /// How a run ended.
 #[derive(Debug, Drop)]
 pub enum VerifyStatus {
-    /// The request is good, and who signed it was printed.
-    Done,
-    /// The request isn't verified. Where memory ran out the output holds a prefix of the text, and else it is as it was.
-    NotVerified(VerifyFault),
-    /// The output failed; it holds a prefix of the text.
-    OutputFault,
+    /// As a run of the other commands ends. Where it is done, the request is good, and who signed it was printed.
+    Ended(Status),
+    /// The line of the input at this place is bad, or missing; places count from 1.
+    BadLine(usize),
+    /// The input couldn't be read.
+    InputFault,
+    /// The input has over 64 MiB.
+    TooLarge,
+    /// The request has this fault, the first in the order of [`admit`](request_door::admit).
+    Wrong(DoorFault),
 }
 
 impl VerifyStatus {
@@ -26,35 +30,86 @@ impl VerifyStatus {
         ensures { result ≡ verify_code self.now }
     {
         match self {
-            VerifyStatus::Done => 0,
-            VerifyStatus::NotVerified(fault) => fault_code(fault),
-            VerifyStatus::OutputFault => 3,
+            VerifyStatus::Ended(status) => status.code(),
+            VerifyStatus::BadLine(_) | VerifyStatus::Wrong(_) => 1,
+            VerifyStatus::InputFault | VerifyStatus::TooLarge => 3,
         }
     }
 }
 
-fn fault_code(fault: &VerifyFault) -> u8
-    ensures { result ≡ verify_fault_code fault.now }
-{
-    match fault {
-        VerifyFault::BadLine(_) | VerifyFault::Refused(_) | VerifyFault::Wrong(_) => 1,
-        VerifyFault::InputFault
-        | VerifyFault::TooLarge
-        | VerifyFault::CouldNotReadFile(_)
-        | VerifyFault::NoMemory => 3,
+impl From<AllocError> for VerifyStatus {
+    ghost use Rattle.std.specs.Prelude.{◌≡◌};
+    ghost use Rattle.awsign_run.specs.declared.status.Status.TheVariants.{NoMemory};
+    ghost use Rattle.awsign_verify.specs.declared.status.VerifyStatus.TheVariants.{Ended};
+
+    ghost from_gives = { λ _ status. status ≡ Ended NoMemory };
+
+    fn from(_e: AllocError) -> VerifyStatus {
+        VerifyStatus::Ended(Status::NoMemory)
+    }
+}
+
+impl From<ReadFault> for VerifyStatus {
+    ghost use Rattle.std.specs.Prelude.{◌≡◌};
+    ghost use Rattle.awsign_verify.specs.VerifyRun.{read_verify_status};
+
+    ghost from_gives = { λ fault status. status ≡ read_verify_status fault };
+
+    fn from(fault: ReadFault) -> VerifyStatus {
+        match fault {
+            ReadFault::Failed => VerifyStatus::InputFault,
+            ReadFault::TooLarge => VerifyStatus::TooLarge,
+            ReadFault::NoMemory => VerifyStatus::Ended(Status::NoMemory),
+        }
+    }
+}
+
+impl From<EnvConfigFileLoadError> for VerifyStatus {
+    ghost use Rattle.std.specs.Prelude.{◌≡◌};
+    ghost use Rattle.awsign_run.specs.Status.{load_status};
+    ghost use Rattle.awsign_verify.specs.declared.status.VerifyStatus.TheVariants.{Ended};
+
+    ghost from_gives = { λ fault status. status ≡ Ended (load_status fault) };
+
+    fn from(fault: EnvConfigFileLoadError) -> VerifyStatus {
+        VerifyStatus::Ended(Status::from(fault))
+    }
+}
+
+impl From<Fault> for VerifyStatus {
+    ghost use Rattle.std.specs.Prelude.{◌≡◌};
+    ghost use Rattle.awsign_run.specs.Status.{fault_status};
+    ghost use Rattle.awsign_verify.specs.declared.status.VerifyStatus.TheVariants.{Ended};
+
+    ghost from_gives = { λ fault status. status ≡ Ended (fault_status fault) };
+
+    fn from(fault: Fault) -> VerifyStatus {
+        VerifyStatus::Ended(Status::from(fault))
     }
 }
 
 impl From<SinkError> for VerifyStatus {
     ghost use Rattle.std.specs.Prelude.{◌≡◌};
-    ghost use Rattle.awsign_verify.specs.VerifyRun.{sink_verify_status};
+    ghost use Rattle.awsign_run.specs.Status.{sink_status};
+    ghost use Rattle.awsign_verify.specs.declared.status.VerifyStatus.TheVariants.{Ended};
 
-    ghost from_gives = { λ fault status. status ≡ sink_verify_status fault };
+    ghost from_gives = { λ fault status. status ≡ Ended (sink_status fault) };
 
     fn from(fault: SinkError) -> VerifyStatus {
+        VerifyStatus::Ended(Status::from(fault))
+    }
+}
+
+impl From<DoorFault> for VerifyStatus {
+    ghost use Rattle.std.specs.Prelude.{◌≡◌};
+    ghost use Rattle.awsign_verify.specs.Verify.{door_verify_status};
+
+    ghost from_gives = { λ fault status. status ≡ door_verify_status fault };
+
+    fn from(fault: DoorFault) -> VerifyStatus {
         match fault {
-            SinkError::Failed => VerifyStatus::OutputFault,
-            SinkError::NoMemory => VerifyStatus::NotVerified(VerifyFault::NoMemory),
+            DoorFault::NoMemory => VerifyStatus::Ended(Status::NoMemory),
+            fault => VerifyStatus::Wrong(fault),
         }
     }
 }

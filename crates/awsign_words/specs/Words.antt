@@ -20,7 +20,7 @@ use Rattle.awsign_words.specs.declared.command.Command.{Command}
 use Rattle.awsign_words.specs.declared.command.Command.TheVariants.{Sign, Presign, Verify, Settings, Chunk}
 use Rattle.awsign_words.specs.declared.words.Asked.{Asked}
 use Rattle.awsign_words.specs.declared.words.AskedCommand.{AskedCommand}
-use Rattle.awsign_words.specs.declared.words.AskedCommand.TheVariants.{Signing, Verifying, Telling, Chunking, Streaming}
+use Rattle.awsign_words.specs.declared.words.AskedCommand.TheVariants.{Signing, Verifying, Showing, Chunking, Streaming}
 use Rattle.awsign_words.specs.declared.words.Checksum.{Checksum}
 use Rattle.awsign_words.specs.declared.words.Checksum.TheVariants.{Crc32, Sha256}
 use Rattle.awsign_words.specs.declared.words.GivenWords.{GivenWords}
@@ -49,7 +49,7 @@ pub record VerifyWanted : Type 0 where
 pub data CommandWanted : Type 0 where
   signs : SignWanted → CommandWanted
   verifies : VerifyWanted → CommandWanted
-  tells : OptionValues → CommandWanted
+  shows : OptionValues → CommandWanted
   chunks : SignWanted → CommandWanted
   streams : EventsWanted → CommandWanted
 
@@ -285,8 +285,8 @@ unfoldable pub verify_words : List (List ℕ) → Result VerifyWanted ℕ
 verify_words words = after_pieces all_verify_words (taken_from given_word 2 (no_words Verify) words)
 
 -- what the words behind `settings` ask for
-unfoldable pub telling_words : List (List ℕ) → Result OptionValues ℕ
-telling_words words = after_pieces all_settings_words (taken_from given_word 2 (no_words Settings) words)
+unfoldable pub showing_words : List (List ℕ) → Result OptionValues ℕ
+showing_words words = after_pieces all_settings_words (taken_from given_word 2 (no_words Settings) words)
 
 -- to sign what is asked
 abbrev pub to_sign : Result SignWanted ℕ → Result CommandWanted ℕ
@@ -298,10 +298,10 @@ abbrev pub to_verify : Result VerifyWanted ℕ → Result CommandWanted ℕ
 to_verify (Ok wanted) = Ok (verifies wanted)
 to_verify (Err place) = Err place
 
--- to tell the settings under these options
-abbrev pub to_tell : Result OptionValues ℕ → Result CommandWanted ℕ
-to_tell (Ok options) = Ok (tells options)
-to_tell (Err place) = Err place
+-- to show the settings under these options
+abbrev pub to_show : Result OptionValues ℕ → Result CommandWanted ℕ
+to_show (Ok options) = Ok (shows options)
+to_show (Err place) = Err place
 
 -- to write in chunks what is asked
 abbrev pub to_chunk : Result SignWanted ℕ → Result CommandWanted ℕ
@@ -320,7 +320,7 @@ command_words (word ∷ words) =
     if bytes_eq word (codes "sign") then to_sign (words_behind Sign words)
     else if bytes_eq word (codes "presign") then to_sign (words_behind Presign words)
     else if bytes_eq word (codes "verify") then to_verify (verify_words words)
-    else if bytes_eq word (codes "settings") then to_tell (telling_words words)
+    else if bytes_eq word (codes "settings") then to_show (showing_words words)
     else if bytes_eq word (codes "chunk") then to_chunk (words_behind Chunk words)
     else if bytes_eq word (codes "events") then to_stream (events_words words)
     else Err 1
@@ -380,7 +380,7 @@ ReadsOptions read (Err NoMemory) = Unit {0}
 abbrev pub command_wanted : AskedCommand → CommandWanted
 command_wanted (Signing asked) = signs (sign_wanted asked)
 command_wanted (Verifying asked) = verifies (verify_wanted asked)
-command_wanted (Telling options) = tells options
+command_wanted (Showing options) = shows options
 command_wanted (Chunking asked) = chunks (sign_wanted asked)
 command_wanted (Streaming asked) = streams (events_wanted asked)
 

@@ -4,7 +4,7 @@ ghost use Rattle.std.specs.List.{list_all};
 ghost use Rattle.std.specs.String.{string_bytes};
 ghost use Rattle.http_header.specs.Token.{is_token_byte};
 ghost use Rattle.job_text.specs.Words.{TakesWord};
-ghost use Rattle.awsign_words.specs.Words.{ReadsAsked, ReadsCommand, ReadsOptions, ReadsVerify, all_settings_words, all_verify_words, all_words, asked_url, checksum_named, command_words, form_named, given_words, has, has_payload, is_chunk_option, is_fit, is_flag, is_method, is_no_operand, is_payload, is_payload_option, is_printing_option, is_request_option, is_signing_flag, is_spent, lacks_option, minus, no_words, sign_wanted, take_header, take_operand, take_other, take_trailer, take_value, takes_value, telling_words, to_chunk, to_sign, to_stream, to_tell, to_verify, verify_words, words_behind};
+ghost use Rattle.awsign_words.specs.Words.{ReadsAsked, ReadsCommand, ReadsOptions, ReadsVerify, all_settings_words, all_verify_words, all_words, asked_url, checksum_named, command_words, form_named, given_words, has, has_payload, is_chunk_option, is_fit, is_flag, is_method, is_no_operand, is_payload, is_payload_option, is_printing_option, is_request_option, is_signing_flag, is_spent, lacks_option, minus, no_words, sign_wanted, take_header, take_operand, take_other, take_trailer, take_value, takes_value, showing_words, to_chunk, to_sign, to_stream, to_show, to_verify, verify_words, words_behind};
 ghost use Rattle.job_text.specs.Lines.{header_of_line};
 ghost use Rattle.awsign_words.specs.EventWords.{events_words};
 
@@ -27,7 +27,7 @@ pub enum AskedCommand<'a> {
     /// To say who signed a request.
     Verifying(VerifyAsked<'a>),
     /// To say which settings are used under these options, and where each came from.
-    Telling(Env),
+    Showing(Env),
     /// To print a signed request, and to write its body in chunks.
     Chunking(Asked<'a>),
     /// To print, write or check events.
@@ -236,7 +236,7 @@ impl<'a> GivenWords<'a> {
         })
     }
 
-    /// The options under which settings are told, where the place behind the last word is reached.
+    /// The options under which settings are shown, where the place behind the last word is reached.
     pub fn finish_settings(self, place: usize) -> Result<Env, WordsFault>
         ensures { ReadsOptions (all_settings_words place (given_words self.entry)) result }
     {
@@ -440,7 +440,7 @@ pub fn read_command<'a>(alloc: Global, words: &'a [String]) -> Result<AskedComma
         "sign" => read_signing(alloc, Command::Sign, rest),
         "presign" => read_signing(alloc, Command::Presign, rest),
         "verify" => read_verifying(alloc, rest),
-        "settings" => read_telling(alloc, rest),
+        "settings" => read_showing(alloc, rest),
         "chunk" => read_chunking(alloc, rest),
         "events" => read_streaming(alloc, rest),
         _ => Err(WordsFault::BadWord(1)),
@@ -514,18 +514,18 @@ fn read_verify<'a>(alloc: Global, words: &'a [String]) -> Result<VerifyAsked<'a>
 }
 
 // What the words behind `settings` ask for.
-fn read_telling<'a>(alloc: Global, words: &'a [String]) -> Result<AskedCommand<'a>, WordsFault>
-    ensures { ReadsCommand (to_tell (telling_words (map string_bytes words.now))) result }
+fn read_showing<'a>(alloc: Global, words: &'a [String]) -> Result<AskedCommand<'a>, WordsFault>
+    ensures { ReadsCommand (to_show (showing_words (map string_bytes words.now))) result }
 {
     match read_settings(alloc, words) {
-        Ok(options) => Ok(AskedCommand::Telling(options)),
+        Ok(options) => Ok(AskedCommand::Showing(options)),
         Err(fault) => Err(fault),
     }
 }
 
-#[tactic(auto, unfolding(crate::specs::Words::telling_words))]
+#[tactic(auto, unfolding(crate::specs::Words::showing_words))]
 fn read_settings(alloc: Global, words: &[String]) -> Result<Env, WordsFault>
-    ensures { ReadsOptions (telling_words (map string_bytes words.now)) result }
+    ensures { ReadsOptions (showing_words (map string_bytes words.now)) result }
 {
     let mut given = GivenWords::new(alloc, Command::Settings);
     let place = take_words(&mut given, 2, words)?;

@@ -17,7 +17,7 @@ use Rattle.request_door.specs.Doors.{AnswersDoor, DoorInput, IsAdmitted, Refuses
 use Rattle.request_door.specs.declared.admitted.Admitted.{Admitted}
 use Rattle.request_door.specs.declared.fault.DoorFault.{DoorFault}
 use Rattle.request_door.specs.declared.fault.DoorFault.TheVariants.{NoMemory}
-use Rattle.firuvaik_c.specs.Admitting.{AdmitsLent, AnswersEntry, IsLentRequest, LetsIn, TellsEntry, door_fault, key_pair, service_input, unasked}
+use Rattle.firuvaik_c.specs.Admitting.{AdmitsLent, AnswersEntry, IsLentRequest, LetsIn, DescribesEntry, door_fault, key_pair, service_input, unasked}
 use Rattle.firuvaik_c.specs.Asked.{unless_utf8}
 use Rattle.firuvaik_c.specs.Faults.{unknown_flags}
 use Rattle.firuvaik_c.specs.declared.door.Entry.{Entry}
@@ -34,8 +34,8 @@ unfolding recomputed signature
 length-recomputed method target headers settings payload signer seal = length-digits _ _
 
 -- so has that of an admitted request
-pub length-told : (asked : DoorInput) (told : Admitted) → IsAdmitted asked told → length (string_bytes told.signature) ≡ 64
-length-told asked told is = ap length (is.told.signature ∙ is.own) ∙ length-recomputed _ _ _ _ _ _ _
+pub length-admitted : (asked : DoorInput) (who : Admitted) → IsAdmitted asked who → length (string_bytes who.signature) ≡ 64
+length-admitted asked who is = ap length (is.told.signature ∙ is.own) ∙ length-recomputed _ _ _ _ _ _ _
 
 within_if : (b : Bool) (value : List ℕ) (rest : Option (List ℕ)) (place count : ℕ) (secret : List ℕ) → (rest ≡ Some secret → place < count)
     → option_or (if b then Some value else None) rest ≡ Some secret → (if b then zero else suc place) < suc count
@@ -48,12 +48,12 @@ place_within [] name secret is = cc
 place_within (pair ∷ pairs) name secret is =
     within_if (bytes_eq pair.0 name) pair.1 (first_value pairs name) (first_place pairs name) (length pairs) secret (place_within pairs name secret) is
 
--- what is told of a request that is let in by one of the keys
-pub lets_in : (asked : DoorInput) (keys : List Key) (told : Admitted) (entry : Entry) (is : IsAdmitted asked told)
-    → first_value (map key_pair keys) is.reading.terms.key_id ≡ Some is.reading.secret → TellsEntry keys told entry → LetsIn asked keys entry
-lets_in asked keys told entry is known tells =
+-- a request that an entry describes is let in by one of the keys
+pub lets_in : (asked : DoorInput) (keys : List Key) (who : Admitted) (entry : Entry) (is : IsAdmitted asked who)
+    → first_value (map key_pair keys) is.reading.terms.key_id ≡ Some is.reading.secret → DescribesEntry keys who entry → LetsIn asked keys entry
+lets_in asked keys who entry is known describes =
     let within = rw (length-map keys key_pair) at (place_within (map key_pair keys) is.reading.terms.key_id is.reading.secret known) in
-    record { told = told; admitted = is; tells = tells; known = rw (tells.key, is.told.key_id) within }
+    record { who = who; admitted = is; describes = describes; known = rw (describes.key, is.told.key_id) within }
 
 -- a refusal stays so where settings, moment and limits are said otherwise
 pub same_refusal : (sent : HttpRequest) (body region name : List ℕ) (secrets : List ℕ → Option (List ℕ)) (settings given : Settings) (now at : Instant) (skew expiry seconds : ℕ)

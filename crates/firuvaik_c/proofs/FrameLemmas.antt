@@ -22,7 +22,7 @@ use Rattle.eventstream.proofs.FrontLemmas.{behind_is, prelude_told}
 use Rattle.chain_watch.specs.Chain.{IsByte}
 use Rattle.chain_watch.proofs.SpelledLemmas.{read_split}
 use Rattle.firuvaik_c.specs.Faults.{frame_fault, no_memory}
-use Rattle.firuvaik_c.specs.Frames.{TellHeaders, TellsMessage, TellsValue, all_places, piece_at, header_place, prelude_length, value_shape}
+use Rattle.firuvaik_c.specs.Frames.{DescribeHeaders, DescribesMessage, DescribesValue, all_places, piece_at, header_place, prelude_length, value_shape}
 use Rattle.firuvaik_c.specs.declared.fault.Fault.{Fault}
 use Rattle.firuvaik_c.specs.declared.frames.HeaderPlace.{HeaderPlace}
 
@@ -122,50 +122,50 @@ name_bytes header front back bytes at is here =
     ∙ piece_in (front ++ one) name (value ++ back) (at + 1) (length name) (omega (arith, here, length-append front one)) refl
 
 -- the value of a header that begins at a place
-value_told : (header : Header) (front back bytes : List ℕ) (at : ℕ) (value : HeaderValue) → header.value ≡ value → bytes ≡ front ++ (spelling header ++ back) → length front ≡ at
-    → TellsValue bytes (header_place at header) value
+value_described : (header : Header) (front back bytes : List ℕ) (at : ℕ) (value : HeaderValue) → header.value ≡ value → bytes ≡ front ++ (spelling header ++ back) → length front ≡ at
+    → DescribesValue bytes (header_place at header) value
 unfolding value_spelling
-value_told header front back bytes at (Truth true) same is here = ap (λ (v : HeaderValue). (value_shape v).kind) same
-value_told header front back bytes at (Truth false) same is here = ap (λ (v : HeaderValue). (value_shape v).kind) same
-value_told header front back bytes at (Byte n) same is here = (ap (λ (v : HeaderValue). (value_shape v).kind) same, ap (λ (v : HeaderValue). (value_shape v).number) same)
-value_told header front back bytes at (Int16 n) same is here = (ap (λ (v : HeaderValue). (value_shape v).kind) same, ap (λ (v : HeaderValue). (value_shape v).number) same)
-value_told header front back bytes at (Int32 n) same is here = (ap (λ (v : HeaderValue). (value_shape v).kind) same, ap (λ (v : HeaderValue). (value_shape v).number) same)
-value_told header front back bytes at (Int64 n) same is here = (ap (λ (v : HeaderValue). (value_shape v).kind) same, ap (λ (v : HeaderValue). (value_shape v).number) same)
-value_told header front back bytes at (ByteArray array) same is here = (
+value_described header front back bytes at (Truth true) same is here = ap (λ (v : HeaderValue). (value_shape v).kind) same
+value_described header front back bytes at (Truth false) same is here = ap (λ (v : HeaderValue). (value_shape v).kind) same
+value_described header front back bytes at (Byte n) same is here = (ap (λ (v : HeaderValue). (value_shape v).kind) same, ap (λ (v : HeaderValue). (value_shape v).number) same)
+value_described header front back bytes at (Int16 n) same is here = (ap (λ (v : HeaderValue). (value_shape v).kind) same, ap (λ (v : HeaderValue). (value_shape v).number) same)
+value_described header front back bytes at (Int32 n) same is here = (ap (λ (v : HeaderValue). (value_shape v).kind) same, ap (λ (v : HeaderValue). (value_shape v).number) same)
+value_described header front back bytes at (Int64 n) same is here = (ap (λ (v : HeaderValue). (value_shape v).kind) same, ap (λ (v : HeaderValue). (value_shape v).number) same)
+value_described header front back bytes at (ByteArray array) same is here = (
   ap (λ (v : HeaderValue). (value_shape v).kind) same,
   ap (λ (v : HeaderValue). piece_at (at + 2 + length header.name + (value_shape v).count) (value_shape v).length bytes) same
       ∙ value_bytes header front (to_be_bytes w16 (length array)) array back bytes at byte_array_kind (ap value_spelling same) is here,
 )
-value_told header front back bytes at (Text text) same is here = (
+value_described header front back bytes at (Text text) same is here = (
   ap (λ (v : HeaderValue). (value_shape v).kind) same,
   ap (λ (v : HeaderValue). piece_at (at + 2 + length header.name + (value_shape v).count) (value_shape v).length bytes) same
       ∙ value_bytes header front (to_be_bytes w16 (length text)) text back bytes at string_kind (ap value_spelling same) is here,
 )
-value_told header front back bytes at (Timestamp t) same is here = (ap (λ (v : HeaderValue). (value_shape v).kind) same, ap (λ (v : HeaderValue). (value_shape v).number) same)
-value_told header front back bytes at (Uuid n) same is here = (
+value_described header front back bytes at (Timestamp t) same is here = (ap (λ (v : HeaderValue). (value_shape v).kind) same, ap (λ (v : HeaderValue). (value_shape v).number) same)
+value_described header front back bytes at (Uuid n) same is here = (
   ap (λ (v : HeaderValue). (value_shape v).kind) same,
   ap (λ (v : HeaderValue). piece_at (at + 2 + length header.name + (value_shape v).count) (value_shape v).length bytes) same
       ∙ value_bytes header front [] (to_be_bytes w128 n) back bytes at uuid_kind (ap value_spelling same) is here,
 )
 
 -- headers one after another from a place on
-pub headers_told : (headers : List Header) (front back bytes : List ℕ) (at : ℕ) → bytes ≡ front ++ (block headers ++ back) → length front ≡ at
-    → TellHeaders bytes (all_places at headers) headers
-headers_told [] front back bytes at is here = tt
-headers_told (header ∷ headers) front back bytes at is here =
+pub headers_described : (headers : List Header) (front back bytes : List ℕ) (at : ℕ) → bytes ≡ front ++ (block headers ++ back) → length front ≡ at
+    → DescribeHeaders bytes (all_places at headers) headers
+headers_described [] front back bytes at is here = tt
+headers_described (header ∷ headers) front back bytes at is here =
     let next = (header_place at header).value + (header_place at header).value_length in
     let first : bytes ≡ front ++ (spelling header ++ (block headers ++ back)) = is ∙ ap (λ (rest : List ℕ). front ++ rest) (append_assoc (spelling header) (block headers) back) in
     let others : bytes ≡ (front ++ spelling header) ++ (block headers ++ back) = first ∙ sym (append_assoc front (spelling header) (block headers ++ back)) in
     let there : length (front ++ spelling header) ≡ next = omega (arith, here, length-append front (spelling header), spelling_length header) in (
-      record { name = name_bytes header front (block headers ++ back) bytes at first here; value = value_told header front (block headers ++ back) bytes at header.value refl first here },
-      headers_told headers (front ++ spelling header) back bytes next others there,
+      record { name = name_bytes header front (block headers ++ back) bytes at first here; value = value_described header front (block headers ++ back) bytes at header.value refl first here },
+      headers_described headers (front ++ spelling header) back bytes next others there,
     )
 
 -- ## A frame that was read
 
 -- where the parts of a message stand in bytes that begin with its frame
 pub record IsFound (bytes : List ℕ) (message : Parts) : Type 0 where
-  pub headers : TellHeaders bytes (all_places 12 message.headers) message.headers
+  pub headers : DescribeHeaders bytes (all_places 12 message.headers) message.headers
   pub payload : piece_at (12 + length (block message.headers)) (length message.payload) bytes ≡ message.payload
   pub long : announced bytes ≡ 16 + length (block message.headers) + length message.payload
   pub there : announced bytes ≤ length bytes
@@ -194,7 +194,7 @@ frame_found bytes more message is long there short =
     is ∙ append_assoc (front ++ headers ++ payload) sum more ∙ append_assoc (front ++ headers) payload (sum ++ more) in
     let all : bytes ≡ front ++ (headers ++ (payload ++ (sum ++ more))) = behind ∙ append_assoc front headers (payload ++ (sum ++ more)) in
     record {
-      headers = headers_told message.headers front (payload ++ (sum ++ more)) bytes 12 all twelve;
+      headers = headers_described message.headers front (payload ++ (sum ++ more)) bytes 12 all twelve;
       payload =
           ap (λ (text : List ℕ). piece_at (12 + length headers) (length payload) text) behind
           ∙ piece_in (front ++ headers) payload (sum ++ more) (12 + length headers) (length payload) (omega (arith, twelve, length-append front headers)) refl;
@@ -211,11 +211,11 @@ message_found bytes message n is small =
     frame_found bytes (drop (announced bytes) bytes) message (sym (take-append-drop (announced bytes) bytes) ∙ ap (λ (text : List ℕ). text ++ drop (announced bytes) bytes) framed.spelled)
     long framed.there framed.short
 
--- what is told of a message that was found, where so many bytes are left behind its frame
-pub found_told : (bytes : List ℕ) (message : Parts) (left paid : ℕ) (places : List HeaderPlace) → IsFound bytes message → left ≡ length bytes - announced bytes
+-- what describes a message that was found, where so many bytes are left behind its frame
+pub found_described : (bytes : List ℕ) (message : Parts) (left paid : ℕ) (places : List HeaderPlace) → IsFound bytes message → left ≡ length bytes - announced bytes
     → paid ≡ length message.payload → places ≡ all_places 12 message.headers
-    → TellsMessage bytes message (announced bytes) (record { length = length bytes - left; payload = length bytes - left - 4 - paid; payload_length = paid }) places
-found_told bytes message left paid places found behind pays are =
+    → DescribesMessage bytes message (announced bytes) (record { length = length bytes - left; payload = length bytes - left - 4 - paid; payload_length = paid }) places
+found_described bytes message left paid places found behind pays are =
     let start : length bytes - left - 4 - paid ≡ 12 + length (block message.headers) = omega (arith, behind, pays, found.long, found.there) in
     record {
       headers = rw are found.headers;

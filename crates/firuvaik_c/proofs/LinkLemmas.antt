@@ -29,7 +29,7 @@ use Rattle.firuvaik_c.specs.Asked.{is_text_field, moment_at, unless_utf8}
 use Rattle.firuvaik_c.specs.Chunks.{GivesTrailers, lent_trailers, trailers_refusal}
 use Rattle.firuvaik_c.specs.Events.{GivesLink, GivesNextFrame}
 use Rattle.firuvaik_c.specs.Faults.{beyond_years, frame_fault, fault_of_signing}
-use Rattle.firuvaik_c.specs.Links.{is_text_scope, key_signer, linkless}
+use Rattle.firuvaik_c.specs.Links.{is_text_scope, key_signer, link_over, linkless}
 use Rattle.firuvaik_c.specs.declared.answer.Made.{Made}
 use Rattle.firuvaik_c.specs.declared.fault.Fault.{Fault}
 use Rattle.firuvaik_c.specs.declared.lent.Field.{Field}
@@ -60,11 +60,12 @@ pub encoding_fault : (reason : Option ErrorKind) (error : SigningError) → opti
 encoding_fault None error is = cc
 encoding_fault (Some kind) error is = ap (option_map fault_of_signing) is
 
--- who signs by parameters, and when, as it is asked for
-pub link_asked : (signer : LentSigner) (seconds : ℤ) (params : V4Params (Unit {0})) (identity : Bor Identity) (region name : Bor (List ℕ)) (at : Instant)
-    → params ≡ params_of identity region name at tt → secret_of identity.now ≡ signer.secret.now → region.now ≡ signer.region.now → name.now ≡ signer.service.now
-    → at ≡ moment_at seconds → (signer_of params ≡ key_signer signer) × (v4_time params ≡ moment_at seconds)
-link_asked signer seconds params identity region name at built secret place service when = (rw (built, secret, place, service) refl, rw (built, when) refl)
+-- a link of equal parts
+pub link_same : (signer : LentSigner) (seconds : ℤ) (before secret region name code : List ℕ) (at : Instant) → secret ≡ signer.secret.now → region ≡ signer.region.now
+    → name ≡ signer.service.now → at ≡ moment_at seconds → code ≡ before
+    → record { signer = record { secret = secret; region = region; name = name }; at = at; before = code } ≡ link_over signer seconds before
+link_same signer seconds before secret region name code at key place service when same =
+    λ i. record { signer = record { secret = key i; region = place i; name = service i }; at = when i; before = same i }
 
 able_if : (scope code years : Bool) → scope ≡ true → code ≡ true → years ≡ true → option_or (unless_utf8 (scope && code)) (if years then None else Some beyond_years) ≡ None
 able_if scope code years s c y = rw (s, c, y) refl
@@ -73,18 +74,6 @@ able_if scope code years s c y = rw (s, c, y) refl
 pub link_able : (signer : LentSigner) (seconds : ℤ) (before : List ℕ) → is_text_scope signer ≡ true → is_utf8 before ≡ true → is_in_years (moment_at seconds) ≡ true
     → linkless signer seconds before ≡ None
 link_able signer seconds before scope code years = able_if (is_text_scope signer) (is_utf8 before) (is_in_years (moment_at seconds)) scope code years
-
--- a link is that of equal signers, moments and signatures
-pub link_moved : (who other : Signer) (at then_at : Instant) (before signed_before bytes : List ℕ) (made : Made) → who ≡ other → at ≡ then_at → before ≡ signed_before
-    → GivesLink (link_message who before bytes at) (link_signature who before bytes at) made
-    → GivesLink (link_message other signed_before bytes then_at) (link_signature other signed_before bytes then_at) made
-link_moved who other at then_at before signed_before bytes made same when code link = rw (← same, ← when, ← code) link
-
--- and so is the reason why there is none
-pub refusal_moved : (who other : Signer) (at then_at : Instant) (before signed_before bytes : List ℕ) (error : SigningError) → who ≡ other → at ≡ then_at
-    → before ≡ signed_before → (option_map failed_encoding (unframed (link_message who before bytes at)) ≡ Some error) ⊎ (error ≡ NoMemory)
-    → (option_map failed_encoding (unframed (link_message other signed_before bytes then_at)) ≡ Some error) ⊎ (error ≡ NoMemory)
-refusal_moved who other at then_at before signed_before bytes error same when code refused = rw (← same, ← when, ← code) refused
 
 none_first : (first second : Option Fault) → first ≡ None → option_or first second ≡ second
 none_first None second is = refl

@@ -126,21 +126,21 @@ payload_number Unsigned = 1
 payload_number UnsignedChunks = 2
 payload_number SignedChunks = 3
 
--- what is told of an admitted request is handed out: its key by the index of the first with that id, and an end of its time beyond 64 bits by the nearest number
-pub record TellsEntry (keys : List Key) (told : Admitted) (entry : Entry) : Type 0 where
-  pub key : entry.admission.key ≡ first_place (map key_pair keys) (string_bytes told.key_id)
-  pub at : entry.admission.at ≡ told.at.secs
-  pub until : entry.admission.until ≡ saturate_signed w64 told.until
-  pub place : entry.admission.place ≡ place_number told.place
-  pub payload : entry.admission.payload ≡ payload_number told.payload
-  pub names : entry.made.text.items ≡ string_bytes told.names
-  pub signature : entry.made.signature ≡ string_bytes told.signature
+-- an entry describes an admitted request: its key by the index of the first with that id, and an end of its time beyond 64 bits by the nearest number
+pub record DescribesEntry (keys : List Key) (admitted : Admitted) (entry : Entry) : Type 0 where
+  pub key : entry.admission.key ≡ first_place (map key_pair keys) (string_bytes admitted.key_id)
+  pub at : entry.admission.at ≡ admitted.at.secs
+  pub until : entry.admission.until ≡ saturate_signed w64 admitted.until
+  pub place : entry.admission.place ≡ place_number admitted.place
+  pub payload : entry.admission.payload ≡ payload_number admitted.payload
+  pub names : entry.made.text.items ≡ string_bytes admitted.names
+  pub signature : entry.made.signature ≡ string_bytes admitted.signature
 
--- a request is let in, by one of the keys, and what is told of it handed out
+-- a request is let in, by one of the keys, and the entry describes it
 pub record LetsIn (asked : DoorInput) (keys : List Key) (entry : Entry) : Type 0 where
-  pub told : Admitted
-  pub admitted : IsAdmitted asked told
-  pub tells : TellsEntry keys told entry
+  pub who : Admitted
+  pub admitted : IsAdmitted asked who
+  pub describes : DescribesEntry keys who entry
   pub known : entry.admission.key < length keys
 
 -- it is let in, or the first test that is met has this number, or memory ran out
@@ -159,8 +159,8 @@ AdmitsLent service request seconds (Err fault) =
     × ((met : DoorFault) × RefusesFirst (service_input service sent request.body.now seconds) met × (fault ≡ door_fault met))))
     ⊎ (fault ≡ no_memory)
 
--- what is told is written where the names of the signed headers fit, or a fault is answered and nothing is written
+-- what describes the request is written where the names of the signed headers fit, or a fault is answered and nothing is written
 abbrev pub LendsEntry : Result Entry Fault → Admission → Admission → List ℕ → List ℕ → List ℕ → List ℕ → Answer → Type 0
-LendsEntry (Ok entry) told told_after code code_after old new answer =
-    LendsSigned (Ok entry.made) code code_after old new answer × (told_after ≡ (if fits entry.made.text.items old then entry.admission else told))
-LendsEntry (Err fault) told told_after code code_after old new answer = LendsSigned (Err fault) code code_after old new answer × (told_after ≡ told)
+LendsEntry (Ok entry) described described_after code code_after old new answer =
+    LendsSigned (Ok entry.made) code code_after old new answer × (described_after ≡ (if fits entry.made.text.items old then entry.admission else described))
+LendsEntry (Err fault) described described_after code code_after old new answer = LendsSigned (Err fault) code code_after old new answer × (described_after ≡ described)

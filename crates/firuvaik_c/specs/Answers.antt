@@ -14,8 +14,8 @@ abbrev pub room_filled : List ℕ → List ℕ → List ℕ
 room_filled text room = if fits text room then text ++ drop (length text) room else room
 
 -- the answer to a text: done, or more room is wanted; either way it has the length of the text
-abbrev pub told : List ℕ → List ℕ → Answer
-told text room = record { status = (if fits text room then 0 else 1); place = 0; length = length text }
+abbrev pub text_answer : List ℕ → List ℕ → Answer
+text_answer text room = record { status = (if fits text room then 0 else 1); place = 0; length = length text }
 
 -- the answer to a fault
 abbrev pub refused : Fault → Answer
@@ -23,7 +23,7 @@ refused fault = record { status = fault.status; place = fault.place; length = 0 
 
 -- a text is lent, or a fault is answered and nothing written
 abbrev pub Lends : Result (List ℕ) Fault → List ℕ → List ℕ → Answer → Type 0
-Lends (Ok text) old new answer = (new ≡ room_filled text old) × (answer ≡ told text old)
+Lends (Ok text) old new answer = (new ≡ room_filled text old) × (answer ≡ text_answer text old)
 Lends (Err fault) old new answer = (new ≡ old) × (answer ≡ refused fault)
 
 -- bytes are lent, or a fault is answered and nothing written

@@ -49,19 +49,6 @@ asked_exclusions settings = if has_flag settings.flags 64 then map (λ name. nam
 abbrev pub asked_expiry : ℕ → Option ℕ
 asked_expiry seconds = if seconds == 0 then None else Some seconds
 
--- the settings that flags, expiry and names stand for
-abbrev pub lent_settings : Settings → SigningSettings
-lent_settings settings = record {
-  percent_encoding_mode = (if has_flag settings.flags 2 then Single else Double);
-  payload_checksum_kind = (if has_flag settings.flags 8 then XAmzSha256 else NoHeader);
-  signature_location = (if has_flag settings.flags 1 then QueryParams else Headers);
-  expires_in = asked_expiry settings.expires_in;
-  excluded_headers = Some (asked_exclusions settings);
-  uri_path_normalization_mode = (if has_flag settings.flags 4 then Disabled else Enabled);
-  session_token_mode = (if has_flag settings.flags 16 then Exclude else Include);
-  session_token_name_override = given_text settings.token_name.now;
-}
-
 -- the settings of a service with these flags: of the others it has the usual ones
 abbrev pub service_settings : ℕ → SigningSettings
 service_settings flags = record default_settings {
@@ -69,6 +56,15 @@ service_settings flags = record default_settings {
   payload_checksum_kind = (if has_flag flags 8 then XAmzSha256 else NoHeader);
   uri_path_normalization_mode = (if has_flag flags 4 then Disabled else Enabled);
   session_token_mode = (if has_flag flags 16 then Exclude else Include);
+}
+
+-- the settings that flags, expiry and names stand for
+abbrev pub lent_settings : Settings → SigningSettings
+lent_settings settings = record (service_settings settings.flags) {
+  signature_location = (if has_flag settings.flags 1 then QueryParams else Headers);
+  expires_in = asked_expiry settings.expires_in;
+  excluded_headers = Some (asked_exclusions settings);
+  session_token_name_override = given_text settings.token_name.now;
 }
 
 -- the payload's text: the one that is given, or else the digest of the body

@@ -39,8 +39,8 @@ length_answer bytes =
     else answer_length (prelude_length (read_prelude (take prelude_len bytes)))
 
 -- that is answered, or memory ran out
-abbrev pub TellsLength : List ℕ → Answer → Type 0
-TellsLength bytes answer = (answer ≡ length_answer bytes) ⊎ (answer ≡ refused no_memory)
+abbrev pub AnswersLength : List ℕ → Answer → Type 0
+AnswersLength bytes answer = (answer ≡ length_answer bytes) ⊎ (answer ≡ refused no_memory)
 
 -- ---- the parts
 
@@ -48,34 +48,34 @@ TellsLength bytes answer = (answer ≡ length_answer bytes) ⊎ (answer ≡ refu
 abbrev pub piece_at : ℕ → ℕ → List ℕ → List ℕ
 piece_at place len bytes = take len (drop place bytes)
 
--- the kind, the number and the bytes of a value are told: of a number the number, of a moment its whole milliseconds, of all others where their bytes stand
-abbrev pub TellsValue : List ℕ → HeaderPlace → HeaderValue → Type 0
-TellsValue bytes told (Truth true) = told.kind ≡ true_kind
-TellsValue bytes told (Truth false) = told.kind ≡ false_kind
-TellsValue bytes told (Byte n) = (told.kind ≡ byte_kind) × (told.number ≡ n)
-TellsValue bytes told (Int16 n) = (told.kind ≡ int16_kind) × (told.number ≡ n)
-TellsValue bytes told (Int32 n) = (told.kind ≡ int32_kind) × (told.number ≡ n)
-TellsValue bytes told (Int64 n) = (told.kind ≡ int64_kind) × (told.number ≡ n)
-TellsValue bytes told (ByteArray array) = (told.kind ≡ byte_array_kind) × (piece_at told.value told.value_length bytes ≡ array)
-TellsValue bytes told (Text text) = (told.kind ≡ string_kind) × (piece_at told.value told.value_length bytes ≡ text)
-TellsValue bytes told (Timestamp t) = (told.kind ≡ timestamp_kind) × (told.number ≡ saturate_signed w64 (floor_ms t))
-TellsValue bytes told (Uuid n) = (told.kind ≡ uuid_kind) × (piece_at told.value told.value_length bytes ≡ to_be_bytes w128 n)
+-- the kind, the number and the bytes of a value are described: of a number the number, of a moment its whole milliseconds, of all others where their bytes stand
+abbrev pub DescribesValue : List ℕ → HeaderPlace → HeaderValue → Type 0
+DescribesValue bytes place (Truth true) = place.kind ≡ true_kind
+DescribesValue bytes place (Truth false) = place.kind ≡ false_kind
+DescribesValue bytes place (Byte n) = (place.kind ≡ byte_kind) × (place.number ≡ n)
+DescribesValue bytes place (Int16 n) = (place.kind ≡ int16_kind) × (place.number ≡ n)
+DescribesValue bytes place (Int32 n) = (place.kind ≡ int32_kind) × (place.number ≡ n)
+DescribesValue bytes place (Int64 n) = (place.kind ≡ int64_kind) × (place.number ≡ n)
+DescribesValue bytes place (ByteArray array) = (place.kind ≡ byte_array_kind) × (piece_at place.value place.value_length bytes ≡ array)
+DescribesValue bytes place (Text text) = (place.kind ≡ string_kind) × (piece_at place.value place.value_length bytes ≡ text)
+DescribesValue bytes place (Timestamp t) = (place.kind ≡ timestamp_kind) × (place.number ≡ saturate_signed w64 (floor_ms t))
+DescribesValue bytes place (Uuid n) = (place.kind ≡ uuid_kind) × (piece_at place.value place.value_length bytes ≡ to_be_bytes w128 n)
 
--- a header of a frame is told, by its places in the bytes
-pub record TellsHeader (bytes : List ℕ) (told : HeaderPlace) (header : Header) : Type 0 where
-  pub name : piece_at told.name told.name_length bytes ≡ header.name
-  pub value : TellsValue bytes told header.value
+-- a header of a frame is described, by its places in the bytes
+pub record DescribesHeader (bytes : List ℕ) (place : HeaderPlace) (header : Header) : Type 0 where
+  pub name : piece_at place.name place.name_length bytes ≡ header.name
+  pub value : DescribesValue bytes place header.value
 
--- each header is told, in order
-abbrev pub TellHeaders : List ℕ → List HeaderPlace → List Header → Type 0
-TellHeaders bytes [] [] = Unit {0}
-TellHeaders bytes [] (header ∷ headers) = ⊥
-TellHeaders bytes (told ∷ others) [] = ⊥
-TellHeaders bytes (told ∷ others) (header ∷ headers) = TellsHeader bytes told header × TellHeaders bytes others headers
+-- each header is described, in order
+abbrev pub DescribeHeaders : List ℕ → List HeaderPlace → List Header → Type 0
+DescribeHeaders bytes [] [] = Unit {0}
+DescribeHeaders bytes [] (header ∷ headers) = ⊥
+DescribeHeaders bytes (place ∷ others) [] = ⊥
+DescribeHeaders bytes (place ∷ others) (header ∷ headers) = DescribesHeader bytes place header × DescribeHeaders bytes others headers
 
--- a message is told whose frame has so many bytes
-pub record TellsMessage (bytes : List ℕ) (message : Parts) (frame_length : ℕ) (parts : FrameParts) (places : List HeaderPlace) : Type 0 where
-  pub headers : TellHeaders bytes places message.headers
+-- a message is described whose frame has so many bytes
+pub record DescribesMessage (bytes : List ℕ) (message : Parts) (frame_length : ℕ) (parts : FrameParts) (places : List HeaderPlace) : Type 0 where
+  pub headers : DescribeHeaders bytes places message.headers
   pub payload : piece_at parts.payload parts.payload_length bytes ≡ message.payload
   pub frame : parts.length ≡ frame_length
 
@@ -90,16 +90,16 @@ WritesParts parts places old new room room_after answer =
 abbrev pub RefusesParts : Fault → FrameParts → FrameParts → List HeaderPlace → List HeaderPlace → Answer → Type 0
 RefusesParts fault old new room room_after answer = (new ≡ old) × (room_after ≡ room) × (answer ≡ refused fault)
 
--- what was read is told and written where it fits, or why nothing was read
+-- what was read is described and written where it fits, or why nothing was read
 abbrev pub ReadsOrRefuses : List ℕ → Result (Parts × ℕ) ErrorKind → FrameParts → FrameParts → List HeaderPlace → List HeaderPlace → Answer → Type 0
 ReadsOrRefuses bytes (Ok found) old new room room_after answer =
-    (parts : FrameParts) × (places : List HeaderPlace) × TellsMessage bytes found.0 found.1 parts places
+    (parts : FrameParts) × (places : List HeaderPlace) × DescribesMessage bytes found.0 found.1 parts places
     × WritesParts parts places old new room room_after answer
 ReadsOrRefuses bytes (Err kind) old new room room_after answer = RefusesParts (frame_fault kind) old new room room_after answer
 
--- the message of the frame that bytes begin with is told, or why there is none, or memory ran out
-abbrev pub TellsFrame : List ℕ → FrameParts → FrameParts → List HeaderPlace → List HeaderPlace → Answer → Type 0
-TellsFrame bytes old new room room_after answer =
+-- the message of the frame that bytes begin with is described, or why there is none, or memory ran out
+abbrev pub DescribesFrame : List ℕ → FrameParts → FrameParts → List HeaderPlace → List HeaderPlace → Answer → Type 0
+DescribesFrame bytes old new room room_after answer =
     ReadsOrRefuses bytes (read bytes) old new room room_after answer ⊎ RefusesParts no_memory old new room room_after answer
 
 -- ---- between the functions
@@ -135,7 +135,7 @@ all_places at (header ∷ headers) = header_place at header ∷ all_places ((hea
 
 -- the parts of what was read are found, or why nothing was read, or memory ran out
 abbrev pub FindsParts : List ℕ → Result (Parts × ℕ) ErrorKind → Result FoundParts Fault → Type 0
-FindsParts bytes (Ok read) (Ok found) = TellsMessage bytes read.0 read.1 found.parts found.headers.items
+FindsParts bytes (Ok read) (Ok found) = DescribesMessage bytes read.0 read.1 found.parts found.headers.items
 FindsParts bytes (Err kind) (Ok found) = ⊥
 FindsParts bytes (Ok read) (Err fault) = fault ≡ no_memory
 FindsParts bytes (Err kind) (Err fault) = (fault ≡ frame_fault kind) ⊎ (fault ≡ no_memory)

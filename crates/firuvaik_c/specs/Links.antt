@@ -3,6 +3,7 @@ use Rattle.std.specs.Prelude.{ℕ, ℤ, Bool, ◌&&◌, List, Option, Some, None
 use Rattle.std.specs.Option.{option_or}
 use Rattle.std.specs.Str.{is_utf8}
 use Rattle.smithy_core.specs.Civil.{is_in_years}
+use Rattle.smithy_core.specs.Moment.{Instant}
 use Rattle.eventstream.specs.Key.{Signer as KeySigner}
 use Rattle.firuvaik_c.specs.Asked.{moment_at, unless_utf8}
 use Rattle.firuvaik_c.specs.Faults.{beyond_years}
@@ -24,3 +25,13 @@ keyless_at are_texts seconds = option_or (unless_utf8 are_texts) (if is_in_years
 -- why there is no link over a signature: a text isn't one, or the second lies outside the years
 abbrev pub linkless : Signer → ℤ → List ℕ → Option Fault
 linkless signer seconds before = keyless_at (is_text_scope signer && is_utf8 before) seconds
+
+-- what the signature of a link is made of: who signs it, when, and the signature before it
+pub record LinkParts : Type 0 where
+  pub signer : KeySigner
+  pub at : Instant
+  pub before : List ℕ
+
+-- the link of a signer at a second, over the signature before it
+abbrev pub link_over : Signer → ℤ → List ℕ → LinkParts
+link_over signer seconds before = record { signer = key_signer signer; at = moment_at seconds; before = before }

@@ -83,6 +83,6 @@ RunsLent lent (Err fault) = (unless_utf8 (are_invocation_texts lent) ≡ Some fa
 
 -- what was written and said, and the outcome, are written where they fit, or a fault is answered and nothing is written
 abbrev pub LendsProgram : Result ProgramText Fault → Outcome → Outcome → List ℕ → List ℕ → Answer → Type 0
-LendsProgram (Ok ran) told told_after old new answer =
-    Lends (Ok ran.text.items) old new answer × (told_after ≡ (if fits ran.text.items old then ran.outcome else told))
-LendsProgram (Err fault) told told_after old new answer = Lends (Err fault) old new answer × (told_after ≡ told)
+LendsProgram (Ok ran) described described_after old new answer =
+    Lends (Ok ran.text.items) old new answer × (described_after ≡ (if fits ran.text.items old then ran.outcome else described))
+LendsProgram (Err fault) described described_after old new answer = Lends (Err fault) old new answer × (described_after ≡ described)

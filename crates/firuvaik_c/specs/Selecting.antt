@@ -61,24 +61,24 @@ pub record Spans (bytes : List ℕ) (span : Span) (text : List ℕ) : Type 0 whe
   pub holds : piece_at span.start span.length bytes ≡ text
 
 -- each text of the settings is found by its span, and the profile by its name; a token that there isn't has no bytes
-pub record TellsSettings (bytes : List ℕ) (told : Selection) (settings : ChosenSettings) (name : List ℕ) : Type 0 where
-  pub key_id : Spans bytes told.key_id settings.key.id
-  pub secret : Spans bytes told.secret settings.key.secret
-  pub token : Spans bytes told.token (unwrap_or settings.key.token [])
-  pub region : Spans bytes told.region settings.region
-  pub profile : Spans bytes told.profile name
+pub record DescribesSettings (bytes : List ℕ) (selection : Selection) (settings : ChosenSettings) (name : List ℕ) : Type 0 where
+  pub key_id : Spans bytes selection.key_id settings.key.id
+  pub secret : Spans bytes selection.secret settings.key.secret
+  pub token : Spans bytes selection.token (unwrap_or settings.key.token [])
+  pub region : Spans bytes selection.region settings.region
+  pub profile : Spans bytes selection.profile name
 
--- what is given is told, with the profile that the variables select; or why nothing is given, or memory ran out
+-- what is given is described, with the profile that the variables select; or why nothing is given, or memory ran out
 abbrev pub SelectsLent : Sources → Result FoundSettings Fault → Type 0
 SelectsLent sources (Ok found) =
-    (settings : ChosenSettings) × (lent_selection sources ≡ Ok settings) × TellsSettings found.text.items found.selection settings (profile_name None (lent_variables sources))
+    (settings : ChosenSettings) × (lent_selection sources ≡ Ok settings) × DescribesSettings found.text.items found.selection settings (profile_name None (lent_variables sources))
 SelectsLent sources (Err fault) = (lent_selection sources ≡ Err fault) ⊎ (fault ≡ no_memory)
 
 -- texts and spans are written where the texts fit, or a fault is answered and nothing is written
 abbrev pub LendsSelection : Result FoundSettings Fault → Selection → Selection → List ℕ → List ℕ → Answer → Type 0
-LendsSelection (Ok found) told told_after old new answer =
-    Lends (Ok found.text.items) old new answer × (told_after ≡ (if fits found.text.items old then found.selection else told))
-LendsSelection (Err fault) told told_after old new answer = Lends (Err fault) old new answer × (told_after ≡ told)
+LendsSelection (Ok found) described described_after old new answer =
+    Lends (Ok found.text.items) old new answer × (described_after ≡ (if fits found.text.items old then found.selection else described))
+LendsSelection (Err fault) described described_after old new answer = Lends (Err fault) old new answer × (described_after ≡ described)
 
 -- ---- between the functions
 

@@ -59,14 +59,14 @@ lent_signature signer before bytes =
     if is_text_scope signer && is_utf8 before then next_signature (key_signer signer) before bytes (read bytes) else Err not_text
 
 -- where the payload of what was read stands, and how long the frame is
-abbrev pub TellsPayload : List ℕ → Result (Parts × ℕ) ErrorKind → FrameParts → Type 0
-TellsPayload bytes (Ok found) parts = (piece_at parts.payload parts.payload_length bytes ≡ found.0.payload) × (parts.length ≡ found.1)
-TellsPayload bytes (Err kind) parts = ⊥
+abbrev pub DescribesPayload : List ℕ → Result (Parts × ℕ) ErrorKind → FrameParts → Type 0
+DescribesPayload bytes (Ok found) parts = (piece_at parts.payload parts.payload_length bytes ≡ found.0.payload) × (parts.length ≡ found.1)
+DescribesPayload bytes (Err kind) parts = ⊥
 
--- a frame passes with its own signature, and its payload is told; or why it doesn't, or memory ran out
+-- a frame passes with its own signature, and its payload is described; or why it doesn't, or memory ran out
 abbrev pub PassesFrame : Signer → List ℕ → List ℕ → Result CheckedFrame Fault → Type 0
 PassesFrame signer bytes before (Ok checked) =
-    (lent_signature signer before bytes ≡ Ok checked.signature) × TellsPayload bytes (read bytes) checked.parts
+    (lent_signature signer before bytes ≡ Ok checked.signature) × DescribesPayload bytes (read bytes) checked.parts
 PassesFrame signer bytes before (Err fault) = (lent_signature signer before bytes ≡ Err fault) ⊎ (fault ≡ no_memory)
 
 -- what was found of a frame is written, or a fault is answered and nothing is

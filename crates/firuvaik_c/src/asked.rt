@@ -63,55 +63,32 @@ pub(crate) fn settings_asked(alloc: Global, asked: &Settings<'_>) -> Result<Sign
     let names = names_of(alloc, asked.excluded)?;
     let excluded = exclusions_of(alloc, asked.flags, names)?;
     let token_name = given_text(alloc, token_name)?;
-    Ok(settings_with(asked, excluded, token_name))
+    Ok(settings_with(alloc, asked, excluded, token_name)?)
 }
 
 // The settings of flags and expiry, with these names.
 fn settings_with(
+    alloc: Global,
     asked: &Settings<'_>,
     excluded: Option<Vec<String>>,
     token_name: Option<String>,
-) -> SigningSettings
+) -> Mem<SigningSettings>
     requires excluded { option_map (λ names. map string_bytes names.items) excluded ≡ Some (asked_exclusions asked.now) }
     requires token_name { option_map string_bytes token_name ≡ given_text asked.now.token_name.now }
-    ensures { settings_of result ≡ lent_settings asked.now }
+    ensures { IfOk result (λ settings. settings_of settings ≡ lent_settings asked.now) }
 {
-    let flags = asked.flags;
-    SigningSettings {
-        percent_encoding_mode: by_flag(
-            flags,
-            SINGLE_ENCODE,
-            PercentEncodingMode::Single,
-            PercentEncodingMode::Double,
-        ),
-        payload_checksum_kind: by_flag(
-            flags,
-            SHA256_HEADER,
-            PayloadChecksumKind::XAmzSha256,
-            PayloadChecksumKind::NoHeader,
-        ),
+    Ok(SigningSettings {
         signature_location: by_flag(
-            flags,
+            asked.flags,
             QUERY,
             SignatureLocation::QueryParams,
             SignatureLocation::Headers,
         ),
         expires_in: expiry(asked.expires_in),
         excluded_headers: excluded,
-        uri_path_normalization_mode: by_flag(
-            flags,
-            KEEP_PATH,
-            UriPathNormalizationMode::Disabled,
-            UriPathNormalizationMode::Enabled,
-        ),
-        session_token_mode: by_flag(
-            flags,
-            UNSIGNED_TOKEN,
-            SessionTokenMode::Exclude,
-            SessionTokenMode::Include,
-        ),
         session_token_name_override: token_name,
-    }
+        ..service_settings(alloc, asked.flags)?
+    })
 }
 
 // One value where a flag is one of the sum, and else the other.

@@ -1,28 +1,24 @@
 //! An upload in signed chunks.
-ghost use Rattle.std.specs.Prelude.{◌≡◌, ◌++◌, ◌⊎◌, None, Some, Result, IfOk, OnOk, MatchResult, length};
-ghost use Rattle.std.specs.List.{flat_map};
-ghost use Rattle.aws_chunked.specs.Text.{crlf, head_text, last_line, trailer_line};
+ghost use Rattle.std.specs.Prelude.{◌≡◌, None, Some, Result, length};
+ghost use Rattle.aws_chunked.specs.Text.{head_text};
 ghost use Rattle.sigv4.specs.Chunk.{chunk_signature, trailer_signature};
-ghost use Rattle.sigv4.specs.EventStream.{unsignable};
-ghost use Rattle.sigv4.specs.Params.{signer_of, v4_identity, v4_time};
 ghost use Rattle.chunk_watch.specs.Trailers.{trailers_text};
 ghost use Rattle.firuvaik_c.specs.Answers.{LendsSigned};
 ghost use Rattle.firuvaik_c.specs.Chunks.{GivesChunk, GivesTrailers, MakesText};
-ghost use Rattle.firuvaik_c.specs.Faults.{no_memory};
 ghost use Rattle.firuvaik_c.specs.declared.answer.Made.{Made};
 ghost use Rattle.firuvaik_c.specs.declared.fault.Fault.{Fault};
 
 use crate::answer::{Answer, Made, lend_signed};
 use crate::fault::Fault;
 use crate::lent::{Field, Signer};
-use crate::link::{nameless, scope_texts};
+use crate::link::Link;
 use crate::sign::code_of;
-use crate::texts::{headers_of, test_years, text_of};
-use aws_chunked::X_AMZ_TRAILER_SIGNATURE;
+use crate::texts::headers_of;
+use aws_chunked::parts::{head_text, last_lines};
 use bytes::Bytes;
 use sigv4::parts::test_headers;
 use sigv4::{SigningError, v4};
-use smithy_core::{Headers, Mem, Moment};
+use smithy_core::Headers;
 use std::alloc::Global;
 
 /// Writes the line before the next chunk of an upload, with the chunk's signature over the one before it. No data end the upload.
@@ -46,7 +42,6 @@ pub extern "C" fn firuvaik_next_chunk(
 }
 
 // The line before the next chunk, and its signature.
-#[tactic(auto, using(crate::proofs::SignLemmas::able))]
 fn next_chunk(
     alloc: Global,
     signer: &Signer<'_>,
@@ -56,46 +51,24 @@ fn next_chunk(
 ) -> Result<Made, Fault>
     ensures { GivesChunk signer.now seconds chunk.now signature.now result }
 {
-    let texts = scope_texts(signer)?;
-    let before = text_of(signature.as_slice())?;
-    let at = Moment::new(seconds, 0);
-    test_years(at)?;
-    let identity = nameless(alloc, texts.secret)?;
-    let params = v4::SigningParams::new(&identity, texts.region, texts.service, at, ());
-    match signed_chunk(alloc, chunk, before, &params) {
+    let link = Link::new(alloc, signer, seconds, signature)?;
+    match signed_chunk(alloc, chunk, &link) {
         Ok(made) => Ok(made),
         Err(error) => Err(Fault::from(error)),
     }
 }
 
 // The line before a chunk, with its signature over the one before it.
-fn signed_chunk(
-    alloc: Global,
-    chunk: &[u8],
-    before: &str,
-    params: &v4::SigningParams<'_, ()>,
-) -> Result<Made, SigningError>
-    requires { unsignable (v4_identity params.now) (v4_time params.now) ≡ None }
+fn signed_chunk(alloc: Global, chunk: &[u8], link: &Link<'_>) -> Result<Made, SigningError>
     ensures { MakesText
-        (head_text (length chunk.now) (Some (chunk_signature chunk.now (signer_of params.now) (v4_time params.now) before.now)))
-        (chunk_signature chunk.now (signer_of params.now) (v4_time params.now) before.now) result }
+        (head_text (length chunk.now) (Some (chunk_signature chunk.now link.now.signer link.now.at link.now.before)))
+        (chunk_signature chunk.now link.now.signer link.now.at link.now.before) result }
 {
     let bytes = Bytes::copy_from_slice(alloc, chunk)?;
-    let signed = v4::sign_chunk(alloc, &bytes, before, params)?;
+    let signed = v4::sign_chunk(alloc, &bytes, link.before(), &link.params())?;
     let signature = code_of(&signed);
-    let text = chunk_head(alloc, chunk.len(), &signature)?;
+    let text = head_text(alloc, chunk.len(), Some(signed.signature()))?;
     Ok(Made { text, signature })
-}
-
-// The line before a chunk of this length.
-fn chunk_head(alloc: Global, length: usize, signature: &[u8; 64]) -> Mem<Vec<u8>>
-    ensures { IfOk result (λ text. text.items ≡ head_text length (Some signature.now)) }
-{
-    let mut text = format!(in alloc; "{length:X}")?.into_bytes();
-    text.extend_from_slice(b";chunk-signature=")?;
-    text.extend_from_slice(signature.as_slice())?;
-    text.extend_from_slice(b"\r\n")?;
-    Ok(text)
 }
 
 /// Writes the trailers of an upload behind its empty chunk, and the line of their signature, with the empty line that ends it.
@@ -119,7 +92,6 @@ pub extern "C" fn firuvaik_trailers(
 }
 
 // The lines of the trailers, and their signature.
-#[tactic(auto, using(crate::proofs::SignLemmas::able))]
 fn last_trailers(
     alloc: Global,
     signer: &Signer<'_>,
@@ -129,72 +101,23 @@ fn last_trailers(
 ) -> Result<Made, Fault>
     ensures { GivesTrailers signer.now seconds trailers.now signature.now result }
 {
-    let texts = scope_texts(signer)?;
-    let before = text_of(signature.as_slice())?;
-    let at = Moment::new(seconds, 0);
-    test_years(at)?;
+    let link = Link::new(alloc, signer, seconds, signature)?;
     let headers = headers_of(alloc, trailers)?;
     test_headers(&headers)?;
-    let identity = nameless(alloc, texts.secret)?;
-    let params = v4::SigningParams::new(&identity, texts.region, texts.service, at, ());
-    match signed_trailers(alloc, &headers, before, &params) {
+    match signed_trailers(alloc, &headers, &link) {
         Ok(made) => Ok(made),
         Err(error) => Err(Fault::from(error)),
     }
 }
 
 // The lines of trailers, and their signature over the one before it.
-fn signed_trailers(
-    alloc: Global,
-    headers: &Headers,
-    before: &str,
-    params: &v4::SigningParams<'_, ()>,
-) -> Result<Made, SigningError>
-    requires { unsignable (v4_identity params.now) (v4_time params.now) ≡ None }
+fn signed_trailers(alloc: Global, headers: &Headers, link: &Link<'_>) -> Result<Made, SigningError>
     ensures { MakesText
-        (trailers_text headers.now (trailer_signature headers.now (signer_of params.now) (v4_time params.now) before.now))
-        (trailer_signature headers.now (signer_of params.now) (v4_time params.now) before.now) result }
+        (trailers_text headers.now (trailer_signature headers.now link.now.signer link.now.at link.now.before))
+        (trailer_signature headers.now link.now.signer link.now.at link.now.before) result }
 {
-    let signed = v4::sign_trailer(alloc, headers, before, params)?;
+    let signed = v4::sign_trailer(alloc, headers, link.before(), &link.params())?;
     let signature = code_of(&signed);
-    let text = trailer_lines(alloc, headers, &signature)?;
+    let text = last_lines(alloc, Some(headers), Some(signed.signature()))?;
     Ok(Made { text, signature })
-}
-
-// The lines of trailers, that of their signature, and an empty line.
-fn trailer_lines(alloc: Global, headers: &Headers, signature: &[u8; 64]) -> Mem<Vec<u8>>
-    ensures { IfOk result (λ text. text.items ≡ trailers_text headers.now signature.now) }
-{
-    let mut text = Vec::new(alloc);
-    push_lines(&mut text, headers)?;
-    push_last(&mut text, signature)?;
-    text.extend_from_slice(b"\r\n")?;
-    Ok(text)
-}
-
-// Appends the line of the trailers' signature.
-fn push_last(text: &mut Vec<u8>, signature: &[u8; 64]) -> Mem<()>
-    ensures { OnOk result (text.new.items ≡ text.old.items ++ last_line (Some signature.now)) }
-{
-    push_trailer(text, X_AMZ_TRAILER_SIGNATURE, signature.as_slice())
-}
-
-// Appends the lines of the trailers.
-fn push_lines(text: &mut Vec<u8>, headers: &Headers) -> Mem<()>
-    ensures { OnOk result (text.new.items ≡ text.old.items ++ flat_map trailer_line headers.now) }
-{
-    for (name, value) in headers.iter() {
-        push_trailer(text, name, value.as_bytes())?;
-    }
-    Ok(())
-}
-
-// Appends `name:value` as a line.
-fn push_trailer(text: &mut Vec<u8>, name: &str, value: &[u8]) -> Mem<()>
-    ensures { OnOk result (text.new.items ≡ text.old.items ++ trailer_line (name.now, value.now)) }
-{
-    text.extend_from_slice(name.as_bytes())?;
-    text.extend_from_slice(b":")?;
-    text.extend_from_slice(value)?;
-    text.extend_from_slice(b"\r\n")
 }

@@ -3,7 +3,7 @@ ghost use Rattle.std.specs.Prelude.{◌≡◌, ◌⊎◌, Result, MatchResult, t
 ghost use Rattle.std.specs.Int.{w64, saturate_signed};
 ghost use Rattle.std.specs.List.{list_all};
 ghost use Rattle.smithy_core.specs.TextPairs.{first_place, first_value};
-ghost use Rattle.firuvaik_c.specs.Admitting.{AdmitsLent, AnswersEntry, IsLentRequest, LendsEntry, TellsEntry, door_fault, is_text_key, is_text_request, key_pair, part_number, payload_number, place_number};
+ghost use Rattle.firuvaik_c.specs.Admitting.{AdmitsLent, AnswersEntry, IsLentRequest, LendsEntry, DescribesEntry, door_fault, is_text_key, is_text_request, key_pair, part_number, payload_number, place_number};
 ghost use Rattle.firuvaik_c.specs.Asked.{moment_at, service_settings};
 ghost use Rattle.firuvaik_c.specs.Faults.{no_memory, not_text};
 ghost use Rattle.firuvaik_c.specs.declared.door.Entry.{Entry};
@@ -81,10 +81,10 @@ fn lend_entry(
 {
     match made {
         Ok(entry) => {
-            let told = entry.admission;
+            let described = entry.admission;
             let answer = lend_signed(Ok(entry.made), signature, names);
             if answer.status == 0 {
-                *admission = told;
+                *admission = described;
             }
             answer
         }
@@ -182,27 +182,27 @@ fn answered(
     match admit(
         alloc, sent, body, &settings, region, name, keys, now, &limits,
     ) {
-        Ok(told) => Ok(entry_of(told, service.keys)),
+        Ok(admitted) => Ok(entry_of(admitted, service.keys)),
         Err(fault) => Err(door_fault(fault)),
     }
 }
 
-fn entry_of(told: Admitted, keys: &[Key<'_>]) -> Entry
-    requires { length (string_bytes told.signature) ≡ 64 }
-    ensures { TellsEntry keys.now told result }
+fn entry_of(admitted: Admitted, keys: &[Key<'_>]) -> Entry
+    requires { length (string_bytes admitted.signature) ≡ 64 }
+    ensures { DescribesEntry keys.now admitted result }
 {
     let mut signature = [0; 64];
-    signature.copy_from_slice(told.signature.as_bytes());
+    signature.copy_from_slice(admitted.signature.as_bytes());
     Entry {
         admission: Admission {
-            key: key_index(keys, told.key_id.as_str()),
-            at: told.at.secs(),
-            until: nearest(told.until),
-            place: place_number(told.place),
-            payload: payload_number(told.payload),
+            key: key_index(keys, admitted.key_id.as_str()),
+            at: admitted.at.secs(),
+            until: nearest(admitted.until),
+            place: place_number(admitted.place),
+            payload: payload_number(admitted.payload),
         },
         made: Made {
-            text: told.names.into_bytes(),
+            text: admitted.names.into_bytes(),
             signature,
         },
     }

@@ -1,9 +1,8 @@
 //! The signed frames of an event stream.
-ghost use Rattle.std.specs.Prelude.{◌≡◌, ◌⊎◌, None, Some, Result, MatchResult, option_map};
+ghost use Rattle.std.specs.Prelude.{◌≡◌, ◌⊎◌, Some, Result, MatchResult, option_map};
 ghost use Rattle.eventstream.specs.Frame.{unframed};
 ghost use Rattle.eventstream.specs.Link.{link_message, link_signature};
-ghost use Rattle.sigv4.specs.EventStream.{failed_encoding, unsignable};
-ghost use Rattle.sigv4.specs.Params.{signer_of, v4_identity, v4_time};
+ghost use Rattle.sigv4.specs.EventStream.{failed_encoding};
 ghost use Rattle.firuvaik_c.specs.Answers.{LendsSigned};
 ghost use Rattle.firuvaik_c.specs.Events.{GivesLink, GivesNextFrame};
 ghost use Rattle.firuvaik_c.specs.declared.answer.Made.{Made};
@@ -12,12 +11,10 @@ ghost use Rattle.firuvaik_c.specs.declared.fault.Fault.{Fault};
 use crate::answer::{Answer, Made, lend_signed};
 use crate::fault::Fault;
 use crate::lent::Signer;
-use crate::link::{nameless, scope_texts};
+use crate::link::Link;
 use crate::sign::code_of;
-use crate::texts::{test_years, text_of};
 use eventstream::write_message_to;
 use sigv4::{SigningError, event_stream, v4};
-use smithy_core::Moment;
 use std::alloc::Global;
 
 /// Writes the next frame of a stream: the bytes of an event's frame, signed over the signature before it; no bytes end the stream.
@@ -41,7 +38,6 @@ pub extern "C" fn firuvaik_next_frame(
 }
 
 // The next frame, and its signature.
-#[tactic(auto, using(crate::proofs::SignLemmas::able))]
 fn next_frame(
     alloc: Global,
     signer: &Signer<'_>,
@@ -51,36 +47,26 @@ fn next_frame(
 ) -> Result<Made, Fault>
     ensures { GivesNextFrame signer.now seconds event.now signature.now result }
 {
-    let texts = scope_texts(signer)?;
-    let before = text_of(signature.as_slice())?;
-    let at = Moment::new(seconds, 0);
-    test_years(at)?;
-    let identity = nameless(alloc, texts.secret)?;
-    let params = event_stream::SigningParams::new(&identity, texts.region, texts.service, at, ());
-    match linked(alloc, event, before, &params) {
+    let link = Link::new(alloc, signer, seconds, signature)?;
+    match linked(alloc, event, &link) {
         Ok(made) => Ok(made),
         Err(error) => Err(Fault::from(error)),
     }
 }
 
 // The frame of the signed message of bytes, over the signature before it.
-fn linked(
-    alloc: Global,
-    event: &[u8],
-    before: &str,
-    params: &event_stream::SigningParams<'_>,
-) -> Result<Made, SigningError>
-    requires { unsignable (v4_identity params.now) (v4_time params.now) ≡ None }
+fn linked(alloc: Global, event: &[u8], link: &Link<'_>) -> Result<Made, SigningError>
     ensures { MatchResult result
-        (λ made. GivesLink (link_message (signer_of params.now) before.now event.now (v4_time params.now))
-        (link_signature (signer_of params.now) before.now event.now (v4_time params.now)) made)
-        (λ error. (option_map failed_encoding (unframed (link_message (signer_of params.now) before.now event.now (v4_time params.now))) ≡ Some error)
+        (λ made. GivesLink (link_message link.now.signer link.now.before event.now link.now.at)
+        (link_signature link.now.signer link.now.before event.now link.now.at) made)
+        (λ error. (option_map failed_encoding (unframed (link_message link.now.signer link.now.before event.now link.now.at)) ≡ Some error)
         ⊎ (error ≡ SigningError.NoMemory)) }
 {
-    let key = v4::signing_key_of(params)?;
+    let params = link.params();
+    let key = v4::signing_key_of(&params)?;
     let mut bytes = Vec::new(alloc);
     bytes.extend_from_slice(event)?;
-    let signed = event_stream::sign_bytes_with_key(alloc, bytes, before, params, &key)?;
+    let signed = event_stream::sign_bytes_with_key(alloc, bytes, link.before(), &params, &key)?;
     let signature = code_of(&signed);
     let (message, _) = signed.into_parts();
     let mut text = Vec::new(alloc);

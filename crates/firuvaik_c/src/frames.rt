@@ -5,7 +5,7 @@ ghost use Rattle.smithy_core.specs.Moment.{floor_ms};
 ghost use Rattle.eventstream.specs.Frame.{block, spelling};
 ghost use Rattle.eventstream.specs.Read.{announced, read, read_prelude};
 ghost use Rattle.firuvaik_c.specs.Faults.{no_memory};
-ghost use Rattle.firuvaik_c.specs.Frames.{FindsParts, TellsFrame, TellsLength, WritesParts, all_places, header_place, prelude_length, value_shape};
+ghost use Rattle.firuvaik_c.specs.Frames.{FindsParts, DescribesFrame, AnswersLength, WritesParts, all_places, header_place, prelude_length, value_shape};
 
 use crate::answer::{Answer, refuse};
 use crate::fault::Fault;
@@ -49,7 +49,7 @@ pub struct FrameParts {
 /// wanted.
 #[unsafe(no_mangle)]
 pub extern "C" fn firuvaik_frame_length(alloc: Global, bytes: &[u8]) -> Answer
-    ensures { TellsLength bytes.now result }
+    ensures { AnswersLength bytes.now result }
 {
     let Some((prelude, _)) = bytes.split_first_chunk::<PRELUDE>() else {
         return Answer {
@@ -101,7 +101,7 @@ pub extern "C" fn firuvaik_read_frame(
     parts: &mut FrameParts,
     headers: &mut [HeaderPlace],
 ) -> Answer
-    ensures { TellsFrame bytes.now parts.old parts.new headers.old headers.new result }
+    ensures { DescribesFrame bytes.now parts.old parts.new headers.old headers.new result }
 {
     match found_parts(alloc, bytes) {
         Ok(found) => write_parts(&found, parts, headers),

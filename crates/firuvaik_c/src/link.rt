@@ -1,14 +1,18 @@
 //! What a signing key is made of, and who signs a link of a chain.
-ghost use Rattle.std.specs.Prelude.{◌≡◌, true, false, IfOk, MatchResult};
+ghost use Rattle.std.specs.Prelude.{◌≡◌, ◌⊎◌, true, false, None, Some, IfOk, MatchResult};
 ghost use Rattle.smithy_core.specs.Identity.{IsCredentials, secret_of};
+ghost use Rattle.sigv4.specs.EventStream.{unsignable};
+ghost use Rattle.sigv4.specs.Params.{signer_of, v4_identity, v4_time};
 ghost use Rattle.firuvaik_c.specs.Faults.{no_memory, not_text};
-ghost use Rattle.firuvaik_c.specs.Links.{is_text_scope};
+ghost use Rattle.firuvaik_c.specs.Links.{is_text_scope, link_over, linkless};
 
 use crate::fault::Fault;
 use crate::lent::Signer;
-use crate::texts::text_of;
-use smithy_core::{Credentials, Identity};
+use crate::texts::{test_years, text_of};
+use sigv4::v4;
+use smithy_core::{Credentials, Identity, Moment};
 use std::alloc::Global;
+use std::marker::Model;
 
 /// The texts that a signing key is made of.
 #[derive(Clone, Copy)]
@@ -35,11 +39,84 @@ pub(crate) fn scope_texts<'a>(signer: &Signer<'a>) -> Result<ScopeTexts<'a>, Fau
     })
 }
 
-/// Credentials with a secret alone: a chain has no key id and no token.
-pub(crate) fn nameless(alloc: Global, secret: &str) -> Result<Identity, Fault>
+// Credentials with a secret alone: a chain has no key id and no token.
+fn nameless(alloc: Global, secret: &str) -> Result<Identity, Fault>
     ensures { MatchResult result (λ identity. IsCredentials identity × (secret_of identity ≡ secret.now)) (λ fault. fault ≡ no_memory) }
 {
     let key_id = String::new(alloc);
     let secret = String::from_str(alloc, secret)?;
     Ok(Identity::Credentials(Credentials::new(key_id, secret, None, None)))
+}
+
+/// A link of a chain that can be signed: who signs it, when, and the signature before it.
+///
+/// Contracts see what its signature is made of.
+#[derive(Drop)]
+pub(crate) struct Link<'a> {
+    identity: Identity,
+    region: &'a str,
+    service: &'a str,
+    at: Moment,
+    before: &'a str,
+}
+
+impl<'a> Model for Link<'a> {
+    ghost use Rattle.std.specs.Prelude.{◌≡◌, true};
+    ghost use Rattle.smithy_core.specs.Civil.{is_in_years};
+    ghost use Rattle.smithy_core.specs.Identity.{IsCredentials, secret_of};
+    ghost use Rattle.firuvaik_c.specs.Links.{LinkParts};
+
+    ghost Value = { LinkParts };
+
+    ghost view = { λ link. record {
+      signer = record { secret = secret_of link.identity; region = link.region.now; name = link.service.now };
+      at = link.at;
+      before = link.before.now;
+    } };
+
+    ghost invariant = { λ link. IsCredentials link.identity × (is_in_years link.at ≡ true) };
+}
+
+impl<'a> Link<'a> {
+    /// The link of a signer at a second, over the signature before it.
+    pub(crate) fn new(
+        alloc: Global,
+        signer: &Signer<'a>,
+        seconds: i64,
+        before: &'a [u8; 64],
+    ) -> Result<Link<'a>, Fault>
+        ensures { MatchResult result
+            (λ link. (linkless signer.now seconds before.now ≡ None) × (link ≡ link_over signer.now seconds before.now))
+            (λ fault. (linkless signer.now seconds before.now ≡ Some fault) ⊎ (fault ≡ no_memory)) }
+    {
+        let texts = scope_texts(signer)?;
+        let before = text_of(before.as_slice())?;
+        let at = Moment::new(seconds, 0);
+        test_years(at)?;
+        let identity = nameless(alloc, texts.secret)?;
+        Ok(Link {
+            identity,
+            region: texts.region,
+            service: texts.service,
+            at,
+            before,
+        })
+    }
+
+    /// The signature before it.
+    pub(crate) fn before(&self) -> &str
+        ensures { result.now ≡ self.now.before }
+    {
+        self.before
+    }
+
+    /// The parameters of its signature.
+    #[tactic(auto, using(crate::proofs::SignLemmas::able))]
+    pub(crate) fn params(&self) -> v4::SigningParams<'_, ()>
+        ensures signer { signer_of result ≡ self.now.signer }
+        ensures time { v4_time result ≡ self.now.at }
+        ensures able { unsignable (v4_identity result) (v4_time result) ≡ None }
+    {
+        v4::SigningParams::new(&self.identity, self.region, self.service, self.at, ())
+    }
 }

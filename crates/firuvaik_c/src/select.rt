@@ -2,7 +2,7 @@
 ghost use Rattle.std.specs.Prelude.{◌≡◌, None, Result, IfOk, Ok, string_bytes};
 ghost use Rattle.env_config.specs.ParseFault.{faulty_line_of};
 ghost use Rattle.aws_settings.specs.Choice.{lack_in, profile_name, settings_seen};
-ghost use Rattle.firuvaik_c.specs.Selecting.{AppendsText, LendsSelection, SelectsLent, TellsSettings, lack_or_memory, line_fault};
+ghost use Rattle.firuvaik_c.specs.Selecting.{AppendsText, LendsSelection, SelectsLent, DescribesSettings, lack_or_memory, line_fault};
 ghost use Rattle.firuvaik_c.specs.declared.fault.Fault.{Fault};
 ghost use Rattle.firuvaik_c.specs.declared.select.FoundSettings.{FoundSettings};
 
@@ -116,7 +116,7 @@ fn line_fault(error: &EnvConfigParseError) -> Fault
 
 // The texts of settings, and the name of the profile that the variables select.
 fn found_in(alloc: Global, settings: &AwsSettings, env: &Env) -> Mem<FoundSettings>
-    ensures { IfOk result (λ found. TellsSettings found.text.items found.selection (settings_seen settings.now) (profile_name None env.now)) }
+    ensures { IfOk result (λ found. DescribesSettings found.text.items found.selection (settings_seen settings.now) (profile_name None env.now)) }
 {
     let name = name_of_profile(alloc, env)?;
     let keys = &settings.credentials;

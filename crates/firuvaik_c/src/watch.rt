@@ -6,7 +6,7 @@ ghost use Rattle.eventstream.specs.Read.{read};
 ghost use Rattle.eventstream.specs.Reading.{begins, first_of};
 ghost use Rattle.chain_watch.specs.Walk.{frame_test};
 ghost use Rattle.firuvaik_c.specs.Faults.{no_memory};
-ghost use Rattle.firuvaik_c.specs.Watching.{ChecksFrame, HasCode, LacksCode, PassesFrame, ReadsAlone, TellsPayload, TestsOne, chain_fault, first_code, part_numbered};
+ghost use Rattle.firuvaik_c.specs.Watching.{ChecksFrame, HasCode, LacksCode, PassesFrame, ReadsAlone, DescribesPayload, TestsOne, chain_fault, first_code, part_numbered};
 
 use crate::answer::{Answer, refuse};
 use crate::fault::{Fault, plain};
@@ -79,7 +79,7 @@ fn checked_frame(
 // The parts of bytes that are the frame of the message alone.
 fn parts_of(frame: &[u8], message: &Message) -> FrameParts
     requires { read frame.now ≡ Ok (message.now, length frame.now) }
-    ensures { TellsPayload frame.now (read frame.now) result }
+    ensures { DescribesPayload frame.now (read frame.now) result }
 {
     let payload_length = message.payload().len();
     FrameParts {

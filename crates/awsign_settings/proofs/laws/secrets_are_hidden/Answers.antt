@@ -1,4 +1,4 @@
-use Rattle.awsign_settings.proofs.ToldLemmas.{secrets_hidden}
+use Rattle.awsign_settings.proofs.LinesLemmas.{secrets_hidden}
 use Rattle.awsign_settings.proofs.laws.secrets_are_hidden.Goals as goal
 
 pub returns : goal.returns

@@ -7,7 +7,7 @@ use Rattle.awsign_settings.proofs.SettingsRunLemmas.{files_unread}
 use Rattle.awsign_settings.proofs.run.run_settings.Goals as goal
 
 pub returns-in-Ok-clause-headline : goal.returns-in-Ok-clause-headline
-returns-in-Ok-clause-headline g c = inl (map file_of c.in-Ok.source.files.items, c.in-Ok.ensures.loads.0, c.tell_source.ensures.tells)
+returns-in-Ok-clause-headline g c = inl (map file_of c.in-Ok.source.files.items, c.in-Ok.ensures.loads.0, c.print_source.ensures.prints)
 
 pub returns-in-Err-clause-headline : goal.returns-in-Err-clause-headline
 returns-in-Err-clause-headline g c =

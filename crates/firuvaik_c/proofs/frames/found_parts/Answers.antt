@@ -3,7 +3,7 @@ use Rattle.std.proofs.lemmas.List.{length-drop}
 use Rattle.std.proofs.lemmas.List.Elements.{All-from_get_or}
 use Rattle.eventstream.specs.Read.{announced}
 use Rattle.chain_watch.specs.Chain.{IsByte}
-use Rattle.firuvaik_c.proofs.FrameLemmas.{found_told, message_found}
+use Rattle.firuvaik_c.proofs.FrameLemmas.{found_described, message_found}
 use Rattle.firuvaik_c.proofs.frames.found_parts.Goals as goal
 
 pub places_of-requires : goal.places_of-requires
@@ -41,4 +41,4 @@ returns c =
     c.len.ensures.value ∙ ap (λ (rest : List ℕ). length rest) took.1 ∙ length-drop (announced c.args.bytes.now) c.args.bytes.now in
     let paid : c.len-payload_length.result ≡ length c.in_ok-message.message.payload = c.len-payload_length.ensures.value ∙ ap (λ (text : List ℕ). length text) c.payload.ensures in
     let places = rw c.headers.ensures at c.in_ok-headers.ensures in
-    rw took.0 (found_told c.args.bytes.now c.in_ok-message.message c.len.result c.len-payload_length.result c.in_ok-headers.headers.items found left paid places)
+    rw took.0 (found_described c.args.bytes.now c.in_ok-message.message c.len.result c.len-payload_length.result c.in_ok-headers.headers.items found left paid places)

@@ -1,8 +1,8 @@
-//! What is told of the settings.
+//! The lines that are printed of the settings.
 ghost use Rattle.std.specs.Prelude.{◌≡◌, ◌++◌, ◌-◌, IfOk, OnOk, drop, length, option_map};
 ghost use Rattle.std.specs.String.{string_bytes};
 ghost use Rattle.awsign_settings.specs.Settings.{used_key_of, used_of, used_settings_of, whence_of};
-ghost use Rattle.awsign_settings.specs.Told.{key_lines, missed_at, told_setting, settings_text, value_shown, tabbed_line, whence_text};
+ghost use Rattle.awsign_settings.specs.Lines.{key_lines, missed_at, used_line, settings_text, value_shown, tabbed_line, whence_text};
 
 use crate::settings::{KeySettings, Settings};
 use crate::sourced::{Origin, Sourced};
@@ -20,10 +20,10 @@ pub enum Shown {
     Hidden,
 }
 
-/// What is told of settings: a line for each of profile, key, secret, token and region, with its value, or that it isn't set, and where it
+/// What is printed of settings: a line for each of profile, key, secret, token and region, with its value, or that it isn't set, and where it
 /// came from, or was looked for: `paths` are those of the profile files. Of the key's id it has the last four bytes, and of secret and
 /// token none.
-#[tactic(auto, unfolding(crate::specs::Told::settings_text))]
+#[tactic(auto, unfolding(crate::specs::Lines::settings_text))]
 pub fn settings_text(alloc: Global, settings: &Settings<'_>, paths: &str) -> Mem<Vec<u8>>
     ensures { IfOk result (λ text. text.items ≡ settings_text paths.now (used_settings_of settings.now)) }
 {
@@ -48,7 +48,7 @@ pub fn settings_text(alloc: Global, settings: &Settings<'_>, paths: &str) -> Mem
     Ok(text)
 }
 
-#[tactic(auto, unfolding(crate::specs::Told::key_lines))]
+#[tactic(auto, unfolding(crate::specs::Lines::key_lines))]
 fn push_key(alloc: Global, text: &mut Vec<u8>, paths: &str, key: &KeySettings<'_>) -> Mem<()>
     ensures { OnOk result (text.new.items ≡ text.old.items ++ key_lines paths.now (used_key_of key.now)) }
 {
@@ -74,19 +74,19 @@ fn push_setting(
     missed: &str,
     sourced: Option<Sourced<'_>>,
 ) -> Mem<()>
-    ensures { OnOk result (text.new.items ≡ text.old.items ++ told_setting name.now form missed.now (option_map used_of sourced.entry)) }
+    ensures { OnOk result (text.new.items ≡ text.old.items ++ used_line name.now form missed.now (option_map used_of sourced.entry)) }
 {
     match sourced {
         Some(sourced) => {
             let value = value_shown(alloc, form, sourced.value)?;
             let whence = whence_text(alloc, sourced.origin)?;
-            push_told(text, name, value.as_slice(), whence.as_str())
+            push_tabbed(text, name, value.as_slice(), whence.as_str())
         }
-        None => push_told(text, name, b"not set", missed),
+        None => push_tabbed(text, name, b"not set", missed),
     }
 }
 
-fn push_told(text: &mut Vec<u8>, name: &str, value: &[u8], whence: &str) -> Mem<()>
+fn push_tabbed(text: &mut Vec<u8>, name: &str, value: &[u8], whence: &str) -> Mem<()>
     ensures { OnOk result (text.new.items ≡ text.old.items ++ tabbed_line name.now value.now whence.now) }
 {
     text.extend_from_slice(name.as_bytes())?;

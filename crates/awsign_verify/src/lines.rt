@@ -5,7 +5,7 @@ ghost use Rattle.smithy_core.specs.Civil.{is_in_years};
 ghost use Rattle.smithy_core.specs.Format.{formatted};
 ghost use Rattle.smithy_core.specs.declared.format.Format.TheVariants.{DateTime};
 ghost use Rattle.awsign_run.specs.Chosen.{signs_for_of};
-ghost use Rattle.awsign_verify.specs.Verify.{payload_words, place_word, second_text, told_line, verified_text, what_lines, who_lines, whole_second};
+ghost use Rattle.awsign_verify.specs.Verify.{payload_words, place_word, second_text, named_line, verified_text, what_lines, who_lines, whole_second};
 
 use awsign_run::Chosen;
 use request_door::{Admitted, DoorPayload};
@@ -13,7 +13,7 @@ use sigv4::SignatureLocation;
 use smithy_core::{Format, FormatFault, Mem, Moment, is_in_years, push_line};
 use std::alloc::{AllocError, Global};
 
-/// What is told of a request that the service of a signer lets in: a line for each of key, region, service, place, moment, end, signed
+/// What is printed of a request that the service of a signer lets in: a line for each of key, region, service, place, moment, end, signed
 /// headers and payload.
 pub fn verified_text(alloc: Global, signer: &Chosen, admitted: &Admitted) -> Mem<Vec<u8>>
     ensures { IfOk result (λ text. text.items ≡ verified_text (signs_for_of signer.now) admitted.now) }
@@ -28,10 +28,10 @@ pub fn verified_text(alloc: Global, signer: &Chosen, admitted: &Admitted) -> Mem
 fn push_who(text: &mut Vec<u8>, signer: &Chosen, admitted: &Admitted) -> Mem<()>
     ensures { OnOk result (text.new.items ≡ text.old.items ++ who_lines (signs_for_of signer.now) admitted.now) }
 {
-    push_told(text, "key", admitted.key_id.as_str())?;
-    push_told(text, "region", signer.region.as_str())?;
-    push_told(text, "service", signer.service.as_str())?;
-    push_told(text, "place", place_word(admitted.place))
+    push_named(text, "key", admitted.key_id.as_str())?;
+    push_named(text, "region", signer.region.as_str())?;
+    push_named(text, "service", signer.service.as_str())?;
+    push_named(text, "place", place_word(admitted.place))
 }
 
 #[tactic(auto, unfolding(crate::specs::Verify::what_lines))]
@@ -40,25 +40,25 @@ fn push_what(alloc: Global, text: &mut Vec<u8>, admitted: &Admitted) -> Mem<()>
 {
     push_moment(alloc, text, "signed", admitted.at)?;
     push_second(alloc, text, "until", admitted.until)?;
-    push_told(text, "headers", admitted.names.as_str())?;
-    push_told(text, "payload", payload_words(admitted.payload))
+    push_named(text, "headers", admitted.names.as_str())?;
+    push_named(text, "payload", payload_words(admitted.payload))
 }
 
 fn push_moment(alloc: Global, text: &mut Vec<u8>, name: &str, at: Moment) -> Mem<()>
-    ensures { OnOk result (text.new.items ≡ text.old.items ++ told_line name.now (second_text at.secs)) }
+    ensures { OnOk result (text.new.items ≡ text.old.items ++ named_line name.now (second_text at.secs)) }
 {
     push_second(alloc, text, name, i128::from(at.secs()))
 }
 
 fn push_second(alloc: Global, text: &mut Vec<u8>, name: &str, secs: i128) -> Mem<()>
-    ensures { OnOk result (text.new.items ≡ text.old.items ++ told_line name.now (second_text secs)) }
+    ensures { OnOk result (text.new.items ≡ text.old.items ++ named_line name.now (second_text secs)) }
 {
     let second = second_text(alloc, secs)?;
-    push_told(text, name, second.as_str())
+    push_named(text, name, second.as_str())
 }
 
-fn push_told(text: &mut Vec<u8>, name: &str, value: &str) -> Mem<()>
-    ensures { OnOk result (text.new.items ≡ text.old.items ++ told_line name.now value.now) }
+fn push_named(text: &mut Vec<u8>, name: &str, value: &str) -> Mem<()>
+    ensures { OnOk result (text.new.items ≡ text.old.items ++ named_line name.now value.now) }
 {
     text.extend_from_slice(name.as_bytes())?;
     text.extend_from_slice(b" ")?;
