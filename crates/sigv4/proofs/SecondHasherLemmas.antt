@@ -10,8 +10,8 @@ use Rattle.smithy_core.specs.Moment.{Instant, floor_secs}
 use Rattle.smithy_core.specs.Text.{line}
 use Rattle.eventstream.specs.Frame.{spelling}
 use Rattle.eventstream.specs.Key.{Signer, signing_key}
-use Rattle.eventstream.specs.Link.{date_header, link_code, message_string_to_sign}
-use Rattle.sigv4.specs.SecondHasher.{HashesFor, at_second, payload_lines}
+use Rattle.eventstream.specs.Link.{date_header, link_code, message_string_to_sign, payload_lines}
+use Rattle.sigv4.specs.SecondHasher.{HashesFor, at_second}
 use Rattle.sigv4.proofs.KeyLemmas.{key_floored}
 
 -- the HMAC of the lines, the signature, the digest of the second's header and that of the bytes is that of their link

@@ -2,8 +2,11 @@ ghost use Rattle.std.specs.Prelude.{◌≡◌, ◌++◌, map, None, Some, IfOk, 
 ghost use Rattle.std.specs.List.{flat_map};
 ghost use Rattle.hex.specs.Hex.{encode_lower};
 ghost use Rattle.mac_core.specs.Mac.{mac};
-ghost use Rattle.eventstream.specs.Key.{signing_key};
-ghost use Rattle.sigv4.specs.Chunk.{SignsPart, begun_text, borrowed_pair, by_name, chunk_signature, chunk_string_to_sign, canonical_trailer_line, trailer_lines, trailer_signature, trailer_text};
+ghost use Rattle.smithy_core.specs.Civil.{stamp};
+ghost use Rattle.smithy_core.specs.Text.{line};
+ghost use Rattle.eventstream.specs.Key.{scope, signing_key};
+ghost use Rattle.eventstream.specs.Link.{begun_lines};
+ghost use Rattle.sigv4.specs.Chunk.{SignsPart, borrowed_pair, by_name, chunk_signature, chunk_string_to_sign, canonical_trailer_line, trailer_lines, trailer_signature, trailer_text};
 ghost use Rattle.sigv4.specs.EventStream.{unsignable};
 ghost use Rattle.sigv4.specs.Output.{output_signature};
 ghost use Rattle.sigv4.specs.Params.{signer_of, v4_identity, v4_time};
@@ -13,7 +16,7 @@ use crate::digest::sha256_digits;
 use crate::error::SigningError;
 use crate::output::SigningOutput;
 use crate::params::SigningParams;
-use crate::signature::{begun_string_to_sign, calculate_signature};
+use crate::signature::{PAYLOAD_ALGORITHM, begun_string_to_sign, calculate_signature};
 use crate::signing_time::{SigningTime, signing_time};
 use bytes::Bytes;
 use smithy_core::{Headers, Mem, push_line};
@@ -93,7 +96,7 @@ fn chunk_string_to_sign<S>(
 ) -> Mem<Vec<u8>>
     ensures { IfOk result (λ text. text.items ≡ chunk_string_to_sign chunk.now (signer_of params.now) time.now running_signature.now) }
 {
-    let algorithm = b"AWS4-HMAC-SHA256-PAYLOAD";
+    let algorithm = PAYLOAD_ALGORITHM.as_bytes();
     let mut text = begun_text(alloc, algorithm, time, running_signature, params)?;
     push_line(&mut text, sha256_digits(b"").as_slice())?;
     text.extend_from_slice(sha256_digits(chunk).as_slice())?;
@@ -118,7 +121,7 @@ fn trailer_text<S>(
     Ok(text)
 }
 
-// The lines with which a string to sign begins, where the time is that of the parameters.
+// The lines with which a string to sign begins, where the time is that of the parameters, and the signature before.
 fn begun_text<S>(
     alloc: Global,
     algorithm: &[u8],
@@ -126,7 +129,8 @@ fn begun_text<S>(
     running_signature: &str,
     params: &SigningParams<'_, S>,
 ) -> Mem<Vec<u8>>
-    ensures { IfOk result (λ text. text.items ≡ begun_text algorithm.now (signer_of params.now) time.now running_signature.now) }
+    ensures { IfOk result (λ text. text.items
+        ≡ begun_lines algorithm.now (stamp time.now) (scope time.now (signer_of params.now).region (signer_of params.now).name) ++ line running_signature.now) }
 {
     let stamp = time.stamp();
     let scope = time.scope_bytes(alloc, params.region(), params.name())?;

@@ -7,11 +7,11 @@ ghost use Rattle.smithy_core.specs.Moment.{Instant, floor_secs};
 ghost use Rattle.smithy_core.specs.Text.{line};
 ghost use Rattle.eventstream.specs.Frame.{spelling};
 ghost use Rattle.eventstream.specs.Key.{Signer, signing_key};
-ghost use Rattle.eventstream.specs.Link.{date_header, link_code};
-ghost use Rattle.sigv4.specs.SecondHasher.{HashesFor, payload_lines};
+ghost use Rattle.eventstream.specs.Link.{date_header, link_code, payload_lines};
+ghost use Rattle.sigv4.specs.SecondHasher.{HashesFor};
 
 use crate::digest::sha256_digits;
-use crate::signature::begun_string_to_sign;
+use crate::signature::{PAYLOAD_ALGORITHM, begun_string_to_sign};
 use crate::signing_time::SigningTime;
 use eventstream::{ErrorKind, write_headers_to};
 use mac_core::HmacSha256;
@@ -20,11 +20,22 @@ use std::alloc::{AllocError, Global};
 
 /// What the links of one second are hashed with: an HMAC under the signing key that has taken the lines with which their strings
 /// to sign begin, and the digest of their header `:date`.
-#[derive(Drop)]
 pub(crate) struct SecondHasher {
     secs: i64,
     begun: HmacSha256,
     date_digits: [u8; 64],
+}
+
+// Written out: a derived drop would be taken apart in the proof of each function that drops one.
+impl Drop for SecondHasher {
+    fn drop(self) {
+        let SecondHasher {
+            secs: _,
+            begun,
+            date_digits: _,
+        } = self;
+        drop(begun);
+    }
 }
 
 impl SecondHasher {
@@ -89,7 +100,7 @@ fn payload_lines(alloc: Global, at: Moment, region: &str, name: &str) -> Mem<Vec
     let second = SigningTime::new(whole_second(at)).unwrap();
     let stamp = second.stamp();
     let scope = second.scope_bytes(alloc, region, name)?;
-    let algorithm = b"AWS4-HMAC-SHA256-PAYLOAD";
+    let algorithm = PAYLOAD_ALGORITHM.as_bytes();
     begun_string_to_sign(alloc, algorithm, stamp.as_slice(), scope.as_slice())
 }
 
