@@ -170,7 +170,7 @@ impl KeptKey {
             secret: self.secret.clone()?,
             region: self.region.clone()?,
             name: self.name.clone()?,
-            kept: day_copy(&self.kept)?,
+            kept: self.kept.as_ref().cloned()?,
             second: None,
             derivations: self.derivations,
         })
@@ -251,11 +251,10 @@ impl KeptKey {
     }
 }
 
-impl DayKey {
-    // The same key.
-    fn try_clone(&self) -> Mem<DayKey>
-        ensures { IfOk result (λ copy. copy ≡ self.now) }
-    {
+impl Clone for DayKey {
+    ghost is_clone = { λ day copy. copy ≡ day };
+
+    fn clone(&self) -> Mem<DayKey> {
         Ok(DayKey {
             at: self.at,
             key: self.key,
@@ -264,13 +263,12 @@ impl DayKey {
     }
 }
 
-fn day_copy(kept: &Option<DayKey>) -> Mem<Option<DayKey>>
-    ensures { IfOk result (λ copy. copy ≡ kept.now) }
-{
-    Ok(match kept {
-        Some(day) => Some(day.try_clone()?),
-        None => None,
-    })
+impl Clone for KeptKey {
+    ghost is_clone = { λ key copy. copy ≡ key };
+
+    fn clone(&self) -> Mem<KeptKey> {
+        self.try_clone()
+    }
 }
 
 // Shows neither the secret nor the key.
