@@ -10,11 +10,11 @@ use Rattle.http_header.specs.Token.{is_token_byte, is_value_byte, token_test}
 use Rattle.http_header.proofs.TokenLemmas.{is_token_byte-to_ascii_lowercase, token_byte_range}
 use Rattle.smithy_core.specs.Civil.{stamp}
 use Rattle.smithy_core.specs.TextPairs.{inserted, lower}
-use Rattle.sigv4.specs.Canonical.{added_host, canonical_headers, given_headers, header_payload, hosted_headers, is_signed, joined_names, names, ordered_set, token_header, with_optional, with_signing_headers}
+use Rattle.sigv4.specs.Canonical.{added_host, canonical_headers, given_headers, header_payload, hosted_headers, is_signed, joined_names, names, ordered_set, token_header, with_optional}
 use Rattle.sigv4.specs.Query.{Pair}
 use Rattle.sigv4.specs.Refusal.{is_name, is_value, unfit_headers, unfit_token_name}
 use Rattle.sigv4.specs.Request.{Case}
-use Rattle.sigv4.specs.Settings.{Settings, is_query_form}
+use Rattle.sigv4.specs.Settings.{is_query_form}
 use Rattle.sigv4.proofs.FitLemmas.{AreFit, all-inserted, fit-from_none, own_name}
 use Rattle.sigv4.proofs.SetLemmas.{all-among, among-passes, among-set, any-filtered}
 
