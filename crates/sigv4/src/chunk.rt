@@ -1,4 +1,4 @@
-ghost use Rattle.std.specs.Prelude.{◌≡◌, ◌++◌, map, None, Some, IfOk, OnOk, MatchResult};
+ghost use Rattle.std.specs.Prelude.{◌≡◌, ◌++◌, ℕ, List, map, None, Some, IfOk, OnOk, MatchResult};
 ghost use Rattle.std.specs.List.{flat_map};
 ghost use Rattle.hex.specs.Hex.{encode_lower};
 ghost use Rattle.mac_core.specs.Mac.{mac};
@@ -59,7 +59,8 @@ pub fn sign_trailer<S>(
         (trailer_signature headers.now (signer_of params.now) (v4_time params.now) running_signature.now) result }
 {
     let (key, time) = key_at(params)?;
-    let text = trailer_text(alloc, headers, &time, running_signature, params)?;
+    let (region, name) = (params.region(), params.name());
+    let text = trailer_text(alloc, headers, &time, running_signature, region, name)?;
     Ok(sign_text(alloc, &key, text.as_slice())?)
 }
 
@@ -97,43 +98,47 @@ fn chunk_string_to_sign<S>(
     ensures { IfOk result (λ text. text.items ≡ chunk_string_to_sign chunk.now (signer_of params.now) time.now running_signature.now) }
 {
     let algorithm = PAYLOAD_ALGORITHM.as_bytes();
-    let mut text = begun_text(alloc, algorithm, time, running_signature, params)?;
+    let (region, name) = (params.region(), params.name());
+    let mut text = begun_text(alloc, algorithm, time, running_signature, region, name)?;
     push_line(&mut text, sha256_digits(b"").as_slice())?;
     text.extend_from_slice(sha256_digits(chunk).as_slice())?;
     Ok(text)
 }
 
-// The string to sign of trailers, where the time is that of the parameters.
+/// The string to sign of trailers, for a region and a name.
 #[tactic(auto, unfolding(crate::specs::Chunk::trailer_text))]
-fn trailer_text<S>(
+pub(crate) fn trailer_text(
     alloc: Global,
     headers: &Headers,
     time: &SigningTime,
     running_signature: &str,
-    params: &SigningParams<'_, S>,
+    region: &str,
+    name: &str,
 ) -> Mem<Vec<u8>>
-    ensures { IfOk result (λ text. text.items ≡ trailer_text headers.now (signer_of params.now) time.now running_signature.now) }
+    ensures { (secret : List ℕ) → IfOk result (λ text. text.items
+        ≡ trailer_text headers.now (record { secret = secret; region = region.now; name = name.now }) time.now running_signature.now) }
 {
     let lines = trailer_lines(alloc, headers)?;
     let algorithm = b"AWS4-HMAC-SHA256-TRAILER";
-    let mut text = begun_text(alloc, algorithm, time, running_signature, params)?;
+    let mut text = begun_text(alloc, algorithm, time, running_signature, region, name)?;
     text.extend_from_slice(sha256_digits(lines.as_slice()).as_slice())?;
     Ok(text)
 }
 
-// The lines with which a string to sign begins, where the time is that of the parameters, and the signature before.
-fn begun_text<S>(
+// The lines with which a string to sign begins, and the signature before.
+fn begun_text(
     alloc: Global,
     algorithm: &[u8],
     time: &SigningTime,
     running_signature: &str,
-    params: &SigningParams<'_, S>,
+    region: &str,
+    name: &str,
 ) -> Mem<Vec<u8>>
     ensures { IfOk result (λ text. text.items
-        ≡ begun_lines algorithm.now (stamp time.now) (scope time.now (signer_of params.now).region (signer_of params.now).name) ++ line running_signature.now) }
+        ≡ begun_lines algorithm.now (stamp time.now) (scope time.now region.now name.now) ++ line running_signature.now) }
 {
     let stamp = time.stamp();
-    let scope = time.scope_bytes(alloc, params.region(), params.name())?;
+    let scope = time.scope_bytes(alloc, region, name)?;
     let mut text = begun_string_to_sign(alloc, algorithm, stamp.as_slice(), scope.as_slice())?;
     push_line(&mut text, running_signature.as_bytes())?;
     Ok(text)

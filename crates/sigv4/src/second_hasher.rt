@@ -1,4 +1,4 @@
-ghost use Rattle.std.specs.Prelude.{◌≡◌, ◌↔◌, ◌++◌, [], ℕ, List, IfOk, IsTrue};
+ghost use Rattle.std.specs.Prelude.{◌≡◌, ◌↔◌, ◌++◌, [], ℕ, List, IfOk, IsTrue, string_bytes};
 ghost use Rattle.sha2.specs.Sha256.{sha256};
 ghost use Rattle.hex.specs.Hex.{encode_lower};
 ghost use Rattle.mac_core.specs.Mac.{HoldsMac, key_block, mac_of_block};
@@ -8,6 +8,7 @@ ghost use Rattle.smithy_core.specs.Text.{line};
 ghost use Rattle.eventstream.specs.Frame.{spelling};
 ghost use Rattle.eventstream.specs.Key.{Signer, signing_key};
 ghost use Rattle.eventstream.specs.Link.{date_header, link_code, payload_lines};
+ghost use Rattle.sigv4.specs.Chunk.{chunk_signature};
 ghost use Rattle.sigv4.specs.SecondHasher.{HashesFor};
 
 use crate::digest::sha256_digits;
@@ -18,8 +19,8 @@ use mac_core::HmacSha256;
 use smithy_core::{Header, HeaderValue, Mem, Moment, StrBytes};
 use std::alloc::{AllocError, Global};
 
-/// What the links of one second are hashed with: an HMAC under the signing key that has taken the lines with which their strings
-/// to sign begin, and the digest of their header `:date`.
+/// What the links and the chunks of one second are hashed with: an HMAC under the signing key that has taken the lines with which their strings
+/// to sign begin, and the digest of the links' header `:date`.
 pub(crate) struct SecondHasher {
     secs: i64,
     begun: HmacSha256,
@@ -75,6 +76,20 @@ impl SecondHasher {
             → IfOk result (λ code. code ≡ link_code signer last_signature.now bytes.now t) }
     {
         self.code(last_signature, &self.date_digits, bytes)
+    }
+
+    /// The signature of a chunk, over the signature before it.
+    pub(crate) fn chunk_signature(
+        &self,
+        alloc: Global,
+        chunk: &[u8],
+        running_signature: &str,
+    ) -> Mem<String>
+        ensures { (signer : Signer) (t : Instant) → HashesFor signer self.now → self.now.secs ≡ t.secs
+            → IfOk result (λ text. string_bytes text ≡ chunk_signature chunk.now signer t running_signature.now) }
+    {
+        let code = self.code(running_signature, &sha256_digits(b""), chunk)?;
+        Ok(hex::encode(alloc, code.as_slice())?)
     }
 
     // The HMAC of a string to sign, which ends with the signature before the bytes, a digest, and that of the bytes.
