@@ -19,8 +19,7 @@ use Rattle.aws_chunked.specs.TailRests.{EndsRun, IsLine, IsNamePart, IsLongestFr
 use Rattle.aws_chunked.specs.Text.{crlf, trailer_line}
 use Rattle.aws_chunked.specs.declared.decode.fault.PartFault.{PartFault}
 use Rattle.aws_chunked.specs.declared.decode.fault.PartFault.TheVariants.{Bad}
-use Rattle.aws_chunked.proofs.FollowLemmas.{stops_behind_word}
-use Rattle.aws_chunked.proofs.PlaceLemmas.{stops_first, stops_next}
+use Rattle.aws_chunked.proofs.PlaceLemmas.{stops_behind_word, stops_first}
 use Rattle.aws_chunked.proofs.RunLemmas.{run_ended, run_taken, run_within, same_first, same_run}
 
 -- ## Bytes of a name
@@ -277,7 +276,7 @@ name_stops_line bytes fault told =
         ap (λ (w : List ℕ). w ++ crlf) (is.3 ∙ sym (append-nil (is.0 ++ codes ":"))),
       ),
     ))
-    (λ all led.
+    (λ all _ led.
     let word = led.2 in
     let trailer = word.0 in (
       trailer.0 ++ codes ":",
@@ -291,14 +290,14 @@ name_stops_line bytes fault told =
 pub value_stops_line : (bytes name behind : List ℕ) (fault : PartFault) → IsHeaderName name → lower name ≡ name → bytes ≡ name ++ codes ":" ++ behind
     → StopsWhere IsValuePart (Led IsValuePart) behind fault → StopsWhere IsLine (Led IsLine) bytes fault
 value_stops_line bytes name behind fault is same parted told =
-    stops_next IsValuePart (Led IsValuePart) IsLine (Led IsLine) (name ++ codes ":") bytes behind fault parted
+    stops_behind_word IsValuePart (Led IsValuePart) IsLine (Led IsLine) (name ++ codes ":") bytes behind fault parted
     (λ text value. (
       (name, value.0),
       (is, same, value.1, value.2),
       ap (λ (t : List ℕ). (name ++ codes ":") ++ t) value.3
           ∙ sym (append_assoc (name ++ codes ":") value.0 crlf),
     ))
-    (λ text led.
+    (λ text _ led.
     let word = led.2 in
     let trailer = word.0 in
     let names = same_name name trailer.0 text (trailer.1 ++ (crlf ++ led.1)) is same word.1.0 word.1.1

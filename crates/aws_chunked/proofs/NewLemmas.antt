@@ -1,14 +1,28 @@
 -- What is left of a body that has taken nothing.
-use Rattle.std.proofs.Common.{◌≡◌, ◌+◌, List, length, Option, None, Some, refl, ap, ◌∙◌, arith}
+use Rattle.std.proofs.Common.{◌≡◌, ◌+◌, ℕ, List, length, Option, None, Some, refl, ap, ◌∙◌, arith}
 use Rattle.std.specs.Prelude.{option_map}
+use Rattle.std.specs.declared.alloc.Global.{Global}
+use Rattle.seg_buf.specs.Segments.{Segments}
 use Rattle.smithy_core.specs.declared.outside.frame_source.FrameSource as FrameSource
 use Rattle.smithy_core.specs.declared.outside.frame_part.FramePart.{FramePart}
 use Rattle.aws_chunked.specs.Body.{IsNewBody, TextLeft, data_before, data_left, listed, parts_due, parts_left, text_to_come_with, total_of, trailers_due, trailers_from, trailers_left}
 use Rattle.aws_chunked.specs.Options.{Options, counted}
 use Rattle.aws_chunked.specs.Passing.{filled_before, pieces_due, pieces_to_come, pieces_of, pieces_with}
+use Rattle.aws_chunked.specs.declared.phase.Phase.TheVariants as phase
 use Rattle.aws_chunked.specs.declared.piece_engine.Sent.TheVariants as sent
 use Rattle.aws_chunked.specs.Text.{parts_of}
 use Rattle.aws_chunked.specs.declared.body.AwsChunkedBody.{AwsChunkedBody}
+
+-- a body that has taken nothing, with these empty buffers for its data and its text
+abbrev pub new_body : {F G : Type 0} → Global → F → Options → Segments → List ℕ → AwsChunkedBody F G
+new_body alloc from options held ready = record {
+  alloc = alloc;
+  options = options;
+  source = from;
+  came = record { phase = phase.Data; taken = 0; trailers = None };
+  chunks = record { signer = None; held = held; ready = ready };
+  pieces = record { sent = sent.Nothing };
+}
 
 module _ {F G : Type 0} (source : FrameSource.Ghosts F) where
   parts_new : (body : AwsChunkedBody F G) (from : F) (options : Options) → IsNewBody from options body → (frames : List FramePart)

@@ -1,43 +1,53 @@
 -- The place where reading stops, from one part to the whole.
-use Rattle.std.proofs.Common.{◌≡◌, ℕ, ◌+◌, ◌-◌, ◌<◌, ◌≤◌, inl, inr, List, [], ◌∷◌, ◌++◌, length, take, drop, ap, sym, subst, ◌∙◌, arith, append_assoc}
+use Rattle.std.proofs.Common.{◌≡◌, ℕ, ◌+◌, ◌-◌, ◌<◌, ◌≤◌, inl, inr, List, [], ◌∷◌, ◌++◌, length, take, drop, refl, ap, sym, subst, ◌∙◌, arith, append_assoc}
 use Rattle.std.proofs.lemmas.List.{append-nil, length-append, take-append-drop, take-append-le, take_at}
 use Rattle.aws_chunked.specs.Decoded.{CanGoOn, IsBadAt, StopsAtByte}
 use Rattle.aws_chunked.specs.Reading.{RefusesNext, Stops, StopsWhere}
+use Rattle.aws_chunked.specs.Rests.{first_byte}
 use Rattle.aws_chunked.specs.declared.decode.fault.PartFault.{PartFault}
 use Rattle.aws_chunked.specs.declared.decode.fault.PartFault.TheVariants.{Bad, NoMemory}
 
--- what is refused in the more is refused in the less
-refuses_less : (More Less : List ℕ → Type 0) (front back : List ℕ) → ((bytes : List ℕ) → Less bytes → More bytes) → RefusesNext More front back → RefusesNext Less front back
-refuses_less More Less front [] within refuses = λ is. refuses (within front is)
-refuses_less More Less front (byte ∷ back) within refuses = λ begins. refuses (begins.0, within ((front ++ byte ∷ []) ++ begins.0) begins.1)
+-- what is refused in the more is refused behind a word in the less, where the byte behind the word is that at hand
+refuses_behind_word : (Less More : List ℕ → Type 0) (word front back : List ℕ)
+    → ((text : List ℕ) → first_byte text ≡ first_byte (front ++ back) → Less (word ++ text) → More text) → RefusesNext More front back → RefusesNext Less (word ++ front) back
+refuses_behind_word Less More word front [] within refuses = λ is. refuses (within front (ap first_byte (sym (append-nil front))) is)
+refuses_behind_word Less More word front (byte ∷ back) within refuses = λ begins.
+    let text = (front ++ byte ∷ []) ++ begins.0 in
+    refuses (
+      begins.0,
+      within text (same front begins.0)
+          (subst Less (ap (λ (t : List ℕ). t ++ begins.0) (append_assoc word front (byte ∷ [])) ∙ append_assoc word (front ++ byte ∷ []) begins.0) begins.1),
+    )
+  where
+    same : (xs more : List ℕ) → first_byte ((xs ++ byte ∷ []) ++ more) ≡ first_byte (xs ++ byte ∷ back)
+    same [] more = refl
+    same (x ∷ xs) more = refl
 
--- the first of two parts stops the whole: each word of the part goes on to one of the whole, and what leads to the whole leads to it
+-- the first of two parts stops the whole: each word of the part goes on to one of the whole, and what leads to the whole, where its first
+-- byte is that at hand, leads to the part
 pub stops_first : (IsPart LedPart IsWhole LedWhole : List ℕ → Type 0) (bytes : List ℕ) (fault : PartFault) → ((word : List ℕ) → IsPart word → CanGoOn IsWhole word)
-    → ((all : List ℕ) → LedWhole all → LedPart all) → StopsWhere IsPart LedPart bytes fault → StopsWhere IsWhole LedWhole bytes fault
+    → ((all : List ℕ) → first_byte all ≡ first_byte bytes → LedWhole all → LedPart all) → StopsWhere IsPart LedPart bytes fault → StopsWhere IsWhole LedWhole bytes fault
 stops_first IsPart LedPart IsWhole LedWhole bytes NoMemory goes_on within told = tt
 stops_first IsPart LedPart IsWhole LedWhole bytes (Bad left) goes_on within told =
     let front = told.0 in
     let back = told.1 in
     let begins = told.4 in
-    let whole = goes_on (front ++ begins.0) begins.1 in
-    (front, back, told.2, told.3, (begins.0 ++ whole.0, subst IsWhole (append_assoc front begins.0 whole.0) whole.1), refuses_less LedPart LedWhole front back within told.5)
-
-refuses_behind : (LedRest LedWhole : List ℕ → Type 0) (word front back : List ℕ) → ((rest : List ℕ) → LedWhole (word ++ rest) → LedRest rest) → RefusesNext LedRest front back
-    → RefusesNext LedWhole (word ++ front) back
-refuses_behind LedRest LedWhole word front [] within refuses = λ is. refuses (within front is)
-refuses_behind LedRest LedWhole word front (byte ∷ back) within refuses = λ begins.
-    refuses (
-      begins.0,
-      within ((front ++ byte ∷ []) ++ begins.0)
-          (subst LedWhole (ap (λ (t : List ℕ). t ++ begins.0) (append_assoc word front (byte ∷ [])) ∙ append_assoc word (front ++ byte ∷ []) begins.0) begins.1),
+    let whole = goes_on (front ++ begins.0) begins.1 in (
+      front,
+      back,
+      told.2,
+      told.3,
+      (begins.0 ++ whole.0, subst IsWhole (append_assoc front begins.0 whole.0) whole.1),
+      refuses_behind_word LedWhole LedPart [] front back (λ all same is. within all (same ∙ ap first_byte (sym told.2)) is) told.5,
     )
 
--- what stands behind a word stops the whole: it goes on to the whole behind the word, and what leads to the whole leads to it behind the word
-pub stops_next : (IsRest LedRest IsWhole LedWhole : List ℕ → Type 0) (word bytes rest : List ℕ) (fault : PartFault) → bytes ≡ word ++ rest
-    → ((text : List ℕ) → IsRest text → IsWhole (word ++ text)) → ((text : List ℕ) → LedWhole (word ++ text) → LedRest text)
+-- what stands behind a word stops the whole: it goes on to the whole behind the word, and what leads to the whole, where the byte behind the
+-- word is that at hand, leads to it behind the word
+pub stops_behind_word : (IsRest LedRest IsWhole LedWhole : List ℕ → Type 0) (word bytes rest : List ℕ) (fault : PartFault) → bytes ≡ word ++ rest
+    → ((text : List ℕ) → IsRest text → IsWhole (word ++ text)) → ((text : List ℕ) → first_byte text ≡ first_byte rest → LedWhole (word ++ text) → LedRest text)
     → StopsWhere IsRest LedRest rest fault → StopsWhere IsWhole LedWhole bytes fault
-stops_next IsRest LedRest IsWhole LedWhole word bytes rest NoMemory parted goes_on within told = tt
-stops_next IsRest LedRest IsWhole LedWhole word bytes rest (Bad left) parted goes_on within told =
+stops_behind_word IsRest LedRest IsWhole LedWhole word bytes rest NoMemory parted goes_on within told = tt
+stops_behind_word IsRest LedRest IsWhole LedWhole word bytes rest (Bad left) parted goes_on within told =
     let front = told.0 in
     let back = told.1 in
     let begins = told.4 in (
@@ -46,7 +56,7 @@ stops_next IsRest LedRest IsWhole LedWhole word bytes rest (Bad left) parted goe
       parted ∙ ap (λ (t : List ℕ). word ++ t) told.2 ∙ sym (append_assoc word front back),
       told.3,
       (begins.0, subst IsWhole (sym (append_assoc word front begins.0)) (goes_on (front ++ begins.0) begins.1)),
-      refuses_behind LedRest LedWhole word front back within told.5,
+      refuses_behind_word LedWhole LedRest word front back (λ text same is. within text (same ∙ ap first_byte (sym told.2)) is) told.5,
     )
 
 -- ## The place

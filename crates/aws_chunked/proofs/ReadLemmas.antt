@@ -12,7 +12,7 @@ use Rattle.aws_chunked.specs.Text.{crlf, signature_text}
 use Rattle.aws_chunked.specs.declared.decode.chunks.Chunks.{Chunks}
 use Rattle.aws_chunked.specs.declared.decode.fault.PartFault.{PartFault}
 use Rattle.aws_chunked.specs.declared.decode.fault.PartFault.TheVariants.{Bad}
-use Rattle.aws_chunked.proofs.PlaceLemmas.{stops_first, stops_next}
+use Rattle.aws_chunked.proofs.PlaceLemmas.{stops_behind_word, stops_first}
 use Rattle.aws_chunked.proofs.RunLemmas.{same_word}
 use Rattle.aws_chunked.proofs.SignatureLemmas.{signature_long, signed_some, zeros, zeros_sound}
 
@@ -49,9 +49,9 @@ pub data_read : (n : ℕ) (bytes data_ rest old new : List ℕ) (result : Result
 data_read n bytes data_ rest old new (Ok behind) parted long grown ended =
     (data_, long, parted ∙ ap (λ (t : List ℕ). data_ ++ t) ended ∙ sym (append_assoc data_ crlf behind.now), grown)
 data_read n bytes data_ rest old new (Err fault) parted long grown told =
-    stops_next (λ word. word ≡ crlf) (Led (λ word. word ≡ crlf)) (IsData n) (Led (IsData n)) data_ bytes rest fault parted
+    stops_behind_word (λ word. word ≡ crlf) (Led (λ word. word ≡ crlf)) (IsData n) (Led (IsData n)) data_ bytes rest fault parted
     (λ text is. (data_, long, ap (λ (t : List ℕ). data_ ++ t) is))
-    (λ text led.
+    (λ text _ led.
     let found = led.2 in (
       crlf,
       led.1,
@@ -83,7 +83,7 @@ plain_head bytes chunks (Ok rest) plain ended =
 plain_head bytes chunks (Err fault) plain told =
     stops_first (λ word. word ≡ crlf) (Led (λ word. word ≡ crlf)) (IsHeadEnd chunks.is_signed) (Led (IsHeadEnd chunks.is_signed)) bytes fault
     (λ word is. ([], (None, plain_none chunks.is_signed plain, append-nil word ∙ is)))
-    (λ all led. (led.0, led.1, plain_word chunks.is_signed led.0 plain led.2, led.3))
+    (λ all _ led. (led.0, led.1, plain_word chunks.is_signed led.0 plain led.2, led.3))
     told
 
 mark : List ℕ
@@ -133,7 +133,7 @@ mark_stops bytes chunks fault signed told =
       word_signed chunks.is_signed (word ++ (zeros ++ crlf)) zeros signed zeros_sound
           (ap (λ (w : List ℕ). w ++ (zeros ++ crlf)) is ∙ sym (append_assoc mark zeros crlf)),
     ))
-    (λ all led.
+    (λ all _ led.
     let word = signed_word chunks.is_signed led.0 signed led.2 in
     (mark, (word.0 ++ crlf) ++ led.1, refl, led.3 ∙ ap (λ (w : List ℕ). w ++ led.1) (word.2 ∙ append_assoc mark word.0 crlf) ∙ append_assoc mark (word.0 ++ crlf) led.1))
     told
@@ -143,12 +143,12 @@ pub signature_stops : (bytes before : List ℕ) (chunks : Chunks) (fault : PartF
     → StopsWhere IsSignature (Led IsSignature) before fault → StopsWhere (IsHeadEnd chunks.is_signed) (Led (IsHeadEnd chunks.is_signed)) bytes fault
 unfolding mark IsSigned
 signature_stops bytes before chunks fault signed first told =
-    stops_next IsSigned (Led IsSignature) (IsHeadEnd chunks.is_signed) (Led (IsHeadEnd chunks.is_signed)) mark bytes before fault first
+    stops_behind_word IsSigned (Led IsSignature) (IsHeadEnd chunks.is_signed) (Led (IsHeadEnd chunks.is_signed)) mark bytes before fault first
     (λ text is. word_signed chunks.is_signed (mark ++ text) is.0 signed is.1 (ap (λ (t : List ℕ). mark ++ t) is.2 ∙ sym (append_assoc mark is.0 crlf)))
-    (λ text led.
+    (λ text _ led.
     let found = led_signed chunks.is_signed text signed led in
     (found.0, crlf ++ found.1, found.2, found.3))
-    (stops_first IsSignature (Led IsSignature) IsSigned (Led IsSignature) before fault (λ word is. (crlf, (word, is, refl))) (λ all led. led) told)
+    (stops_first IsSignature (Led IsSignature) IsSigned (Led IsSignature) before fault (λ word is. (crlf, (word, is, refl))) (λ all _ led. led) told)
 
 -- a signature, and what stands behind it
 pub signed_head : (bytes before behind signature : List ℕ) (old new : Chunks) (text : String Global) (result : Result (Bor (List ℕ)) PartFault) → old.is_signed ≡ true
@@ -166,10 +166,10 @@ signed_head bytes before behind signature old new text (Ok rest) signed first is
   body,
 )
 signed_head bytes before behind signature old new text (Err fault) signed first is sound second told more same body =
-    stops_next (λ word. word ≡ crlf) (Led (λ word. word ≡ crlf)) (IsHeadEnd old.is_signed) (Led (IsHeadEnd old.is_signed)) (mark ++ signature) bytes behind fault
+    stops_behind_word (λ word. word ≡ crlf) (Led (λ word. word ≡ crlf)) (IsHeadEnd old.is_signed) (Led (IsHeadEnd old.is_signed)) (mark ++ signature) bytes behind fault
     (first ∙ ap (λ (r : List ℕ). mark ++ r) second ∙ sym (append_assoc mark signature behind))
     (λ rest ended. word_signed old.is_signed ((mark ++ signature) ++ rest) signature signed sound (ap (λ (t : List ℕ). (mark ++ signature) ++ t) ended))
-    (λ rest led.
+    (λ rest _ led.
     let found = led_signed old.is_signed (signature ++ rest) signed (subst (Led (IsHeadEnd old.is_signed)) (append_assoc mark signature rest) led) in
     (crlf, found.1, refl, (same_word signature found.0 rest (crlf ++ found.1) (omega (arith, signature_long signature sound, signature_long found.0 found.2)) found.3).1))
     told

@@ -11,9 +11,10 @@ use Rattle.aws_chunked.specs.Rests.{ChunkRest, ChunksThen, DataThen, FirstRest, 
 use Rattle.aws_chunked.specs.TailRests.{EndsRun}
 use Rattle.aws_chunked.specs.Text.{crlf, length_text, signature_text}
 use Rattle.aws_chunked.specs.declared.decode.fault.PartFault.{PartFault}
-use Rattle.aws_chunked.proofs.FollowLemmas.{follows_as, follows_both, says_same, stops_part, stops_rest}
+use Rattle.aws_chunked.proofs.FollowLemmas.{follows_as, follows_both, says_same, stops_rest}
 use Rattle.aws_chunked.proofs.LengthTextLemmas.{AreDigits, text_digits, text_value}
 use Rattle.aws_chunked.proofs.PieceLemmas.{after_bound, follows_whole}
+use Rattle.aws_chunked.proofs.PlaceLemmas.{stops_first}
 use Rattle.aws_chunked.proofs.RunLemmas.{same_begin, same_first, same_run, same_word}
 use Rattle.aws_chunked.proofs.SignatureLemmas.{signature_long, some_signature, some_signed}
 
@@ -122,7 +123,7 @@ ended_other most n (byte ∷ rest) all low is other =
 stops_length : (most : ℕ) (Rest : ℕ → TextSays) (bytes : List ℕ) (fault : PartFault) → ((m : ℕ) → IsSome (Rest m)) → AllOther Rest
     → StopsWhere (IsLength most) (Led (IsEndedLength most)) bytes fault → StopsWhere (Said (LengthThen most Rest)) (Said (LengthThen most Rest)) bytes fault
 stops_length most Rest bytes fault some all_other told =
-    stops_part (IsLength most) (Led (IsEndedLength most)) (Said (LengthThen most Rest)) bytes fault
+    stops_first (IsLength most) (Led (IsEndedLength most)) (Said (LengthThen most Rest)) (Said (LengthThen most Rest)) bytes fault
     (λ word is.
     let more = some is.0 in
     (more.0, (more.1.0, more.1.1, more.1.2, (is.0, more.0, is.1, ap (λ (w : List ℕ). w ++ more.0) is.2, more.1.3))))
@@ -200,7 +201,7 @@ follows_head is_signed Rest signature rest signed = record {
 stops_head : (is_signed : Bool) (Rest : TextSays) (bytes : List ℕ) (fault : PartFault) → IsSome Rest → StopsWhere (IsHeadEnd is_signed) (Led (IsHeadEnd is_signed)) bytes fault
     → StopsWhere (Said (HeadEndThen is_signed Rest)) (Said (HeadEndThen is_signed Rest)) bytes fault
 stops_head is_signed Rest bytes fault more told =
-    stops_part (IsHeadEnd is_signed) (Led (IsHeadEnd is_signed)) (Said (HeadEndThen is_signed Rest)) bytes fault
+    stops_first (IsHeadEnd is_signed) (Led (IsHeadEnd is_signed)) (Said (HeadEndThen is_signed Rest)) (Said (HeadEndThen is_signed Rest)) bytes fault
     (λ word is. (
       more.0,
       (
@@ -267,7 +268,7 @@ follows_data n Rest piece rest long = record {
 stops_data : (n : ℕ) (Rest : TextSays) (bytes : List ℕ) (fault : PartFault) → IsSome Rest → StopsWhere (IsData n) (Led (IsData n)) bytes fault
     → StopsWhere (Said (DataThen n Rest)) (Said (DataThen n Rest)) bytes fault
 stops_data n Rest bytes fault more told =
-    stops_part (IsData n) (Led (IsData n)) (Said (DataThen n Rest)) bytes fault
+    stops_first (IsData n) (Led (IsData n)) (Said (DataThen n Rest)) (Said (DataThen n Rest)) bytes fault
     (λ word is. (
       more.0,
       (

@@ -19,9 +19,10 @@ use Rattle.aws_chunked.specs.TailRests.{IsLine, IsSplit, is_name_byte, last_trai
 use Rattle.aws_chunked.specs.Text.{crlf, last_line, trailer_line}
 use Rattle.aws_chunked.specs.declared.decode.fault.PartFault.{PartFault}
 use Rattle.aws_chunked.specs.declared.decode.fault.PartFault.TheVariants.{Bad}
-use Rattle.aws_chunked.proofs.FollowLemmas.{follows_as, follows_both, stops_part, stops_rest}
+use Rattle.aws_chunked.proofs.FollowLemmas.{follows_as, follows_both, stops_rest}
 use Rattle.aws_chunked.proofs.LineLemmas.{a_name, cr_ends, name_bytes, same_line}
 use Rattle.aws_chunked.proofs.PieceLemmas.{takes_given, takes_is}
+use Rattle.aws_chunked.proofs.PlaceLemmas.{stops_first}
 use Rattle.aws_chunked.proofs.RunLemmas.{same_begin, same_word}
 use Rattle.sigv4.proofs.DigitLemmas.{digit_low}
 use Rattle.aws_chunked.proofs.SignatureLemmas.{signature_digits, some_signature, some_signed}
@@ -231,7 +232,7 @@ pub line_stops : (is_signed : Bool) (lines : List Trailer) (rest : List ℕ) (fa
     → StopsWhere (Said (LinesSay is_signed lines)) (Said (LinesSay is_signed lines)) rest fault
 unfolding LinesSay
 line_stops is_signed lines rest fault other told =
-    stops_part IsLine (Led IsLine) (Said (LinesSay is_signed lines)) rest fault
+    stops_first IsLine (Led IsLine) (Said (LinesSay is_signed lines)) (Said (LinesSay is_signed lines)) rest fault
     (λ word is. subst (CanGoOn (Said (LinesSay is_signed lines))) (sym is.2) (more_lines is_signed lines is.0 is.1))
     (λ all same is. by all same is.3.0 is.3.3 is.3.6)
     told
@@ -268,7 +269,7 @@ pub end_stops : (is_signed : Bool) (lines trailers : List Trailer) (last : Optio
     → StopsWhere (Said (LinesSay is_signed lines)) (Said (LinesSay is_signed lines)) rest fault
 unfolding LinesSay
 end_stops is_signed lines trailers last rest fault cr split told =
-    stops_part (λ word. word ≡ crlf) (Led (λ word. word ≡ crlf)) (Said (LinesSay is_signed lines)) rest fault
+    stops_first (λ word. word ≡ crlf) (Led (λ word. word ≡ crlf)) (Said (LinesSay is_signed lines)) (Said (LinesSay is_signed lines)) rest fault
     (λ word is.
     ([], ([], one_or_none last, trailers, ([], last, refl, tt, (append-nil lines ∙ split.0, split.1), refl, append-nil word ∙ is))))
     (λ all same is.

@@ -4,4 +4,4 @@
 pub use crate::announcement::joined_names;
 pub use crate::decode::begins_with;
 pub use crate::sound::{frames_in_memory, next_in_memory};
-pub use crate::text::{head_text, tail_text};
+pub use crate::text::{head_text, last_lines, tail_text};

@@ -67,7 +67,7 @@ pub(crate) fn make_last_lines(
 {
     came.test_stream_length(options)?;
     came.test_trailer_lengths_always(options)?;
-    Ok(shared(last_lines(alloc, came.trailers.as_ref())?)?)
+    Ok(shared(last_lines(alloc, came.trailers.as_ref(), None)?)?)
 }
 
 // Counts data and passes it on. After the first trailers it is ignored, and where none is declared none may come.

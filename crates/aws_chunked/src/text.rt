@@ -60,20 +60,35 @@ pub fn tail_text(
     ensures { IfOk result (λ text. text.items ≡ tail_text (option_copied signature.entry) (listed (option_copied trailers.entry)) (option_copied trailer_signature.entry)) }
 {
     let mut text = head_text(alloc, 0, signature)?;
-    push_trailers(&mut text, trailers)?;
-    push_last(&mut text, trailer_signature)?;
-    text.extend_from_slice(CRLF)?;
+    push_last_lines(&mut text, trailers, trailer_signature)?;
     Ok(text)
 }
 
-// The lines of the trailers, and an empty line.
-pub(crate) fn last_lines(alloc: Global, trailers: Option<&Headers>) -> Mem<Vec<u8>>
-    ensures { IfOk result (λ text. text.items ≡ flat_map trailer_line (listed (option_copied trailers.entry)) ++ crlf) }
+/// What stands behind the empty chunk: the trailers and their signature, and an empty line.
+pub fn last_lines(
+    alloc: Global,
+    trailers: Option<&Headers>,
+    signature: Option<&str>,
+) -> Mem<Vec<u8>>
+    ensures { IfOk result (λ text. text.items ≡ flat_map trailer_line (listed (option_copied trailers.entry)) ++ (last_line (option_copied signature.entry) ++ crlf)) }
 {
     let mut text = Vec::new(alloc);
-    push_trailers(&mut text, trailers)?;
-    text.extend_from_slice(CRLF)?;
+    push_last_lines(&mut text, trailers, signature)?;
     Ok(text)
+}
+
+// Appends the trailers and their signature, and an empty line.
+fn push_last_lines(
+    text: &mut Vec<u8>,
+    trailers: Option<&Headers>,
+    signature: Option<&str>,
+) -> Mem<()>
+    ensures { OnOk result (text.new.items
+        ≡ text.old.items ++ flat_map trailer_line (listed (option_copied trailers.entry)) ++ last_line (option_copied signature.entry) ++ crlf) }
+{
+    push_trailers(text, trailers)?;
+    push_last(text, signature)?;
+    text.extend_from_slice(CRLF)
 }
 
 // Appends the lines of the trailers, where some came.
