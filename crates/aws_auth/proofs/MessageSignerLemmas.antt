@@ -1,6 +1,8 @@
 -- What is told of a signer of messages follows from what it signs, and so does the key that it signs under.
 use Rattle.std.proofs.Common.{◌≡◌, ℕ, List, [], Option, Some, None, sym, ap, ◌∙◌}
-use Rattle.std.specs.Prelude.{Result, Ok, Err}
+use Rattle.std.specs.Prelude.{Result, Ok, Err, option_copied}
+use Rattle.std.specs.Borrow.{Bor}
+use Rattle.std.specs.Option.{IsSomeAnd, MatchOption}
 use Rattle.smithy_core.specs.Identity.{IsSameIdentity}
 use Rattle.smithy_core.specs.Message.{Parts}
 use Rattle.smithy_core.specs.Moment.{Instant}
@@ -30,6 +32,13 @@ pub key_copied : (identity copy : Identity) (region name region_copy name_copy :
     → IsOwnKey (signer_for identity region name) kept → IsOwnKey (signer_for copy region_copy name_copy) kept_copy
 key_copied identity copy region name region_copy name_copy kept kept_copy same regions names keys own =
     rw (regions, names, keys) (copied identity copy region name kept same own)
+
+-- a clone of a key that is kept is that key
+pub key_cloned : (held : Option (Bor Kept)) (kept clone : Option Kept) → option_copied held ≡ kept
+    → MatchOption held (clone ≡ None) (λ key. IsSomeAnd clone (λ own. own ≡ key.now)) → clone ≡ kept
+key_cloned None kept clone is same = same ∙ is
+key_cloned (Some key) kept (Some own) is same = ap Some same ∙ is
+key_cloned (Some key) kept None is same = absurd same
 
 -- who signs stays, whatever is signed
 told_after : (refused : Option SignMessageError) (old : SignerState (Unit {0})) (bytes : List ℕ) (t : Instant)

@@ -1,44 +1,52 @@
-ghost use Rattle.std.specs.Prelude.{◌≡◌, IfOk, OnOk, OnErr, string_bytes};
-ghost use Rattle.sigv4.specs.Output.{output_signature};
-ghost use Rattle.sigv4.specs.Params.{signer_of, v4_identity, v4_time};
+ghost use Rattle.std.specs.Prelude.{◌≡◌, ◌⊎◌, IfOk, MatchResult, None, OnOk, OnErr, Some, string_bytes};
+ghost use Rattle.smithy_core.specs.Civil.{IsInYears};
+ghost use Rattle.sigv4.specs.EventStream.{unsignable};
 ghost use Rattle.aws_auth.specs.MessageSigner.{signer_in};
 
 use crate::message_signer::SigV4MessageSigner;
 use bytes::Bytes;
-use sigv4::{SignChunk, SigningError, SigningOutput, SigningSettings, v4};
-use smithy_core::{Headers, Mem};
+use sigv4::{KeptKey, SignChunk, SigningError, SigningSettings};
+use smithy_core::{Headers, Identity, Mem, Moment, is_in_years};
 
 impl SigV4MessageSigner<SigningSettings> {
-    // The parameters of what is signed at the moment of the request.
-    fn chunk_params(&self) -> v4::SigningParams<'_, ()>
-        ensures identity { v4_identity result ≡ self.now.parts.identity }
-        ensures signer { signer_of result ≡ signer_in self.now }
-        ensures time { v4_time result ≡ self.now.parts.time }
+    // The moment of the request, or why the identity doesn't sign at it.
+    fn signing_moment(&self) -> Result<Moment, SigningError>
+        ensures { MatchResult result
+            (λ at. (unsignable self.now.parts.identity self.now.parts.time ≡ None) × IsInYears at × (at ≡ self.now.parts.time))
+            (λ error. unsignable self.now.parts.identity self.now.parts.time ≡ Some error) }
     {
-        v4::SigningParams::new(
-            &self.identity,
-            self.region.as_str(),
-            self.name.as_str(),
-            self.time,
-            (),
-        )
+        match self.identity {
+            Identity::Token(_) => Err(SigningError::UnsupportedIdentityType),
+            Identity::Credentials(_) if is_in_years(self.time) => Ok(self.time),
+            Identity::Credentials(_) => Err(SigningError::MomentOutOfRange(self.time)),
+        }
     }
 
-    // Puts the signature of what was signed in place of the last one, and answers it too. Where memory ran out, nothing has
-    // changed.
-    fn go_on(&mut self, signed: SigningOutput<()>) -> Mem<String>
-        ensures answer { IfOk result (λ answer. string_bytes answer ≡ output_signature signed) }
-        ensures ok { OnOk result (self.new ≡ record self.old { running_signature = output_signature signed }) }
+    // The key of chunks and trailers, which is taken out, or else a new one.
+    fn take_chunk_key(&mut self) -> Mem<KeptKey>
+        ensures own { IfOk result (λ key. key.signer ≡ signer_in self.old) }
+        ensures same { self.new ≡ self.old }
+    {
+        match self.chunk_key.take() {
+            Some(key) => Ok(key),
+            None => self.new_key(),
+        }
+    }
+
+    // Puts a signature in place of the last one, and answers it too. Where memory ran out, nothing has changed.
+    fn go_on(&mut self, signature: String) -> Mem<String>
+        ensures answer { IfOk result (λ answer. string_bytes answer ≡ string_bytes signature) }
+        ensures ok { OnOk result (self.new ≡ record self.old { running_signature = string_bytes signature }) }
         ensures err { OnErr result (self.new ≡ self.old) }
     {
-        let (_, signature) = signed.into_parts();
         let answer = signature.clone()?;
         self.running_signature = signature;
         Ok(answer)
     }
 }
 
-/// Signs each chunk, and the trailers, at the moment of the request, over the last signature, in whose place the new one comes.
+/// Signs each chunk, and the trailers, at the moment of the request, over the last signature, in whose place the new one comes. The
+/// signing key is derived once.
 impl SignChunk for SigV4MessageSigner<SigningSettings> {
     ghost use Rattle.aws_auth.specs.ChunkSigner.{SignsChunkOver, SignsTrailersOver, chunk_told};
 
@@ -50,17 +58,19 @@ impl SignChunk for SigV4MessageSigner<SigningSettings> {
 
     #[tactic(auto, using(crate::proofs::ChunkSignerLemmas::told_goes_on))]
     fn chunk_signature(&mut self, chunk: &Bytes) -> Result<String, SigningError> {
-        let alloc = *self.running_signature.allocator();
-        let params = self.chunk_params();
-        let signed = v4::sign_chunk(alloc, chunk, self.running_signature(), &params)?;
-        Ok(self.go_on(signed)?)
+        let at = self.signing_moment()?;
+        let mut key = self.take_chunk_key()?;
+        let signature = key.chunk_signature(chunk.as_slice(), self.running_signature(), at);
+        self.chunk_key = Some(key);
+        Ok(self.go_on(signature?)?)
     }
 
     #[tactic(auto, using(crate::proofs::ChunkSignerLemmas::told_goes_on))]
     fn trailer_signature(&mut self, trailing_headers: &Headers) -> Result<String, SigningError> {
-        let alloc = *self.running_signature.allocator();
-        let params = self.chunk_params();
-        let signed = v4::sign_trailer(alloc, trailing_headers, self.running_signature(), &params)?;
-        Ok(self.go_on(signed)?)
+        let at = self.signing_moment()?;
+        let mut key = self.take_chunk_key()?;
+        let signature = key.trailer_signature(trailing_headers, self.running_signature(), at);
+        self.chunk_key = Some(key);
+        Ok(self.go_on(signature?)?)
     }
 }

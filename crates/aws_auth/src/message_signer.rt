@@ -21,6 +21,8 @@ pub struct SigV4MessageSigner<S> {
     pub(crate) time: Moment,
     settings: S,
     kept: Option<KeptKey>,
+    // The key of chunks and trailers, which contracts don't see: all are signed at one moment.
+    pub(crate) chunk_key: Option<KeptKey>,
 }
 
 // Written out: a derived drop would be taken apart in the proof of each function that drops one.
@@ -34,6 +36,7 @@ impl<S: Drop> Drop for SigV4MessageSigner<S> {
             time: _,
             settings,
             kept,
+            chunk_key,
         } = self;
         drop(running_signature);
         drop(identity);
@@ -41,6 +44,7 @@ impl<S: Drop> Drop for SigV4MessageSigner<S> {
         drop(name);
         drop(settings);
         drop(kept);
+        drop(chunk_key);
     }
 }
 
@@ -62,7 +66,8 @@ impl<S> Model for SigV4MessageSigner<S> {
       kept = signer.kept;
     } };
 
-    ghost invariant = { λ signer. IsOwnKey (signer_for signer.identity signer.region signer.name) signer.kept };
+    ghost invariant = { λ signer.
+        let own = signer_for signer.identity signer.region signer.name in IsOwnKey own signer.kept × IsOwnKey own signer.chunk_key };
 }
 
 impl<S> SigV4MessageSigner<S> {
@@ -85,6 +90,7 @@ impl<S> SigV4MessageSigner<S> {
             time,
             settings,
             kept: None,
+            chunk_key: None,
         }
     }
 
@@ -95,7 +101,7 @@ impl<S> SigV4MessageSigner<S> {
         self.running_signature.as_str()
     }
 
-    /// How many signing keys were derived: 0 while no key is kept.
+    /// How many signing keys were derived for messages: 0 while no key is kept.
     pub fn derivations(&self) -> u64
         ensures { result ≡ derivations self.now }
     {
@@ -103,6 +109,18 @@ impl<S> SigV4MessageSigner<S> {
             Some(kept) => kept.derivations(),
             None => 0,
         }
+    }
+
+    // A key of who signs, not derived yet.
+    pub(crate) fn new_key(&self) -> Mem<KeptKey>
+        ensures { IfOk result (λ kept. kept ≡ no_key (signer_in self.now)) }
+    {
+        let alloc = *self.running_signature.allocator();
+        Ok(KeptKey::new(
+            String::from_str(alloc, self.identity.secret())?,
+            String::from_str(alloc, self.region.as_str())?,
+            String::from_str(alloc, self.name.as_str())?,
+        ))
     }
 }
 
@@ -118,7 +136,8 @@ impl<S: Clone + Drop> SigV4MessageSigner<S> {
             name: self.name.try_clone()?,
             time: self.time,
             settings: self.settings.clone()?,
-            kept: kept_copy(&self.kept)?,
+            kept: self.kept.as_ref().cloned()?,
+            chunk_key: None,
         })
     }
 }
@@ -168,18 +187,6 @@ impl SigV4MessageSigner<()> {
             None => self.new_key(),
         }
     }
-
-    // A key of who signs, not derived yet.
-    fn new_key(&self) -> Mem<KeptKey>
-        ensures { IfOk result (λ kept. kept ≡ no_key (signer_in self.now)) }
-    {
-        let alloc = *self.running_signature.allocator();
-        Ok(KeptKey::new(
-            String::from_str(alloc, self.identity.secret())?,
-            String::from_str(alloc, self.region.as_str())?,
-            String::from_str(alloc, self.name.as_str())?,
-        ))
-    }
 }
 
 /// Signs each message at the moment that it is handed, over the last signature, in whose place the new one comes. The signing
@@ -207,15 +214,6 @@ impl SignMessage for SigV4MessageSigner<()> {
         let alloc = *self.running_signature.allocator();
         Some(self.sign_bytes(Vec::new(alloc), Crc::new(), now))
     }
-}
-
-fn kept_copy(kept: &Option<KeptKey>) -> Mem<Option<KeptKey>>
-    ensures { IfOk result (λ copy. copy ≡ kept.now) }
-{
-    Ok(match kept {
-        Some(key) => Some(key.try_clone()?),
-        None => None,
-    })
 }
 
 // Shows for which region and service it signs: neither who signs, nor the last signature, nor the key that is kept.

@@ -3,48 +3,36 @@ ghost use Rattle.sigv4.specs.Chunk.{chunk_signature, trailer_signature};
 ghost use Rattle.chunk_watch.specs.Signing.{MakesChunkSigner};
 
 use crate::fault::ChunkFault;
-use bytes::Bytes;
-use sigv4::v4::{SigningParams, sign_chunk, sign_trailer};
-use smithy_core::{Credentials, Headers, Identity, Mem, Moment, is_in_years};
-use std::alloc::{AllocError, Global};
+use sigv4::KeptKey;
+use smithy_core::{Headers, Mem, Moment, is_in_years};
+use std::alloc::Global;
 use std::marker::Model;
 
-// Who signs the chunks of a body, for which region and service, and at which moment, at which chunks are signed.
+// The signing key of the chunks of a body, which is derived once, and the moment at which they are signed.
 //
 // Contracts see who signs, and the moment.
 pub(crate) struct ChunkSigner {
-    identity: Identity,
-    region: String,
-    name: String,
+    key: KeptKey,
     at: Moment,
 }
 
 // Written out: a derived drop would be taken apart in the proof of each function that drops one.
 impl Drop for ChunkSigner {
     fn drop(self) {
-        let ChunkSigner {
-            identity,
-            region,
-            name,
-            at: _,
-        } = self;
-        drop(identity);
-        drop(region);
-        drop(name);
+        let ChunkSigner { key, at: _ } = self;
+        drop(key);
     }
 }
 
 impl Model for ChunkSigner {
-    ghost use Rattle.std.specs.Prelude.{string_bytes};
-    ghost use Rattle.smithy_core.specs.Identity.{secret_of};
+    ghost use Rattle.smithy_core.specs.Civil.{IsInYears};
     ghost use Rattle.chunk_watch.specs.Signing.{Signing};
 
     ghost Value = { Signing };
 
-    ghost view = { λ signer. record {
-      signer = record { secret = secret_of signer.identity; region = string_bytes signer.region; name = string_bytes signer.name };
-      at = signer.at;
-    } };
+    ghost view = { λ signer. record { signer = signer.key.signer; at = signer.at } };
+
+    ghost invariant = { λ signer. IsInYears signer.at };
 }
 
 impl ChunkSigner {
@@ -62,44 +50,27 @@ impl ChunkSigner {
             return Err(ChunkFault::MomentOutOfRange);
         }
         let secret = String::from_str(alloc, secret)?;
-        let credentials = Credentials::new(String::new(alloc), secret, None, None);
+        let region = String::from_str(alloc, region)?;
+        let name = String::from_str(alloc, name)?;
         Ok(ChunkSigner {
-            identity: Identity::Credentials(credentials),
-            region: String::from_str(alloc, region)?,
-            name: String::from_str(alloc, name)?,
+            key: KeptKey::new(secret, region, name),
             at,
         })
     }
 
     // The signature of a chunk's data over the signature before it.
-    pub(crate) fn chunk_signature(&self, alloc: Global, bytes: &[u8], before: &str) -> Mem<String>
-        ensures { IfOk result (λ own. string_bytes own ≡ chunk_signature bytes.now self.now.signer self.now.at before.now) }
+    pub(crate) fn chunk_signature(&mut self, bytes: &[u8], before: &str) -> Mem<String>
+        ensures own { IfOk result (λ own. string_bytes own ≡ chunk_signature bytes.now self.old.signer self.old.at before.now) }
+        ensures same { self.new ≡ self.old }
     {
-        let chunk = Bytes::copy_from_slice(alloc, bytes)?;
-        let (region, name) = (self.region.as_str(), self.name.as_str());
-        let params = SigningParams::new(&self.identity, region, name, self.at, ());
-        // Credentials sign in these years, so that an error is `NoMemory`.
-        match sign_chunk(alloc, &chunk, before, &params) {
-            Ok(output) => Ok(output.into_parts().1),
-            Err(_) => Err(AllocError),
-        }
+        self.key.chunk_signature(bytes, before, self.at)
     }
 
     // The signature of trailers over the signature before it.
-    pub(crate) fn trailer_signature(
-        &self,
-        alloc: Global,
-        trailers: &Headers,
-        before: &str,
-    ) -> Mem<String>
-        ensures { IfOk result (λ own. string_bytes own ≡ trailer_signature trailers.now self.now.signer self.now.at before.now) }
+    pub(crate) fn trailer_signature(&mut self, trailers: &Headers, before: &str) -> Mem<String>
+        ensures own { IfOk result (λ own. string_bytes own ≡ trailer_signature trailers.now self.old.signer self.old.at before.now) }
+        ensures same { self.new ≡ self.old }
     {
-        let (region, name) = (self.region.as_str(), self.name.as_str());
-        let params = SigningParams::new(&self.identity, region, name, self.at, ());
-        // As for a chunk: an error is `NoMemory`.
-        match sign_trailer(alloc, trailers, before, &params) {
-            Ok(output) => Ok(output.into_parts().1),
-            Err(_) => Err(AllocError),
-        }
+        self.key.trailer_signature(trailers, before, self.at)
     }
 }

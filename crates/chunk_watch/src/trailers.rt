@@ -19,18 +19,18 @@ const EMPTY_LINE: &[u8; 84] =
 // which is made over that of the empty chunk.
 pub(crate) fn judged_trailers(
     alloc: Global,
-    signer: &ChunkSigner,
+    signer: &mut ChunkSigner,
     before: &str,
     bytes: &[u8],
     announced: Option<&str>,
 ) -> Result<Headers, ChunkFault>
-    ensures { JudgesTrailers signer.now before.now (option_copied announced.entry) bytes.now result }
+    ensures { JudgesTrailers signer.old before.now (option_copied announced.entry) bytes.now result }
 {
     let (trailers, signature) = read_either_end(alloc, bytes)?;
     if !are_announced(alloc, announced, &trailers)? {
         return Err(ChunkFault::OtherTrailers);
     }
-    let own = signer.trailer_signature(alloc, &trailers, before)?;
+    let own = signer.trailer_signature(&trailers, before)?;
     if constant_time_eq(own.as_bytes(), signature.as_bytes()) {
         Ok(trailers)
     } else {

@@ -28,8 +28,8 @@ pub(crate) enum Phase {
 /// Checks a body in signed chunks that comes in pieces, and hands out a chunk's data as soon as the chunk is there whole and carries
 /// its own signature: no data before its own signature, and all before it, were computed again and compared.
 ///
-/// It keeps less than a chunk with its line between calls, and behind the empty chunk the end, as far as the limits allow, and
-/// while it works a copy of one chunk; trailers take up to 30 times the length of their end. The comparison looks at each byte of
+/// It keeps less than a chunk with its line between calls, and behind the empty chunk the end, as far as the limits allow;
+/// trailers take up to 30 times the length of their end. The signing key is derived once. The comparison looks at each byte of
 /// both signatures. Lengths are hexadecimal digits in either case; the chunks needn't have one size.
 /// [`Debug`](std::fmt::Debug) shows nothing of who signs, of a signature or of data.
 ///
@@ -201,12 +201,13 @@ impl ChunkWatch {
     /// [`ChunkFault::TrailerMismatch`] where the trailers carry another signature than their own. The first of these is answered, or
     /// [`ChunkFault::NoMemory`] where memory runs out.
     #[tactic(auto, using(crate::proofs::EndLemmas::ends_signed))]
-    pub fn finish_with_trailers(self, announced: Option<&str>) -> Result<Headers, ChunkFault>
+    pub fn finish_with_trailers(mut self, announced: Option<&str>) -> Result<Headers, ChunkFault>
         ensures { EndsWithTrailers self (option_copied announced.entry) result }
     {
         self.check_reached()?;
-        let (before, bytes) = (self.signature.as_str(), self.left.as_slice());
-        judged_trailers(self.alloc, &self.signer, before, bytes, announced)
+        let watch = &mut self;
+        let (before, bytes) = (watch.signature.as_str(), watch.left.as_slice());
+        judged_trailers(watch.alloc, &mut watch.signer, before, bytes, announced)
     }
 
     // Says why the end isn't looked at: the empty chunk wasn't passed, or the data isn't of the declared length.
@@ -261,8 +262,7 @@ impl ChunkWatch {
                 Ok(true)
             }
             Front::Chunk(signature, bytes, len) => {
-                let Some(own) = hand_out(self.alloc, &self.signer, before, bytes, signature, out)?
-                else {
+                let Some(own) = hand_out(&mut self.signer, before, bytes, signature, out)? else {
                     self.phase = Phase::Failed(ChunkFault::Mismatch(place));
                     return Ok(true);
                 };
@@ -274,7 +274,7 @@ impl ChunkWatch {
                 Ok(true)
             }
             Front::Empty(signature, len) => {
-                let Some(own) = judged(self.alloc, &self.signer, before, &[], signature)? else {
+                let Some(own) = judged(&mut self.signer, before, &[], signature)? else {
                     self.phase = Phase::Failed(ChunkFault::Mismatch(place));
                     return Ok(true);
                 };
@@ -321,16 +321,16 @@ fn next_place(place: u64) -> u64
 
 // Appends a chunk's data where the chunk carries its own signature, and answers that signature.
 fn hand_out(
-    alloc: Global,
-    signer: &ChunkSigner,
+    signer: &mut ChunkSigner,
     before: &str,
     bytes: &[u8],
     signature: &[u8],
     out: &mut Vec<u8>,
 ) -> Mem<Option<String>>
-    ensures { HandsChunk (chunk_signature bytes.now signer.now.signer signer.now.at before.now) signature.now bytes.now out.old.items out.new.items result }
+    ensures hands { HandsChunk (chunk_signature bytes.now signer.old.signer signer.old.at before.now) signature.now bytes.now out.old.items out.new.items result }
+    ensures same { signer.new ≡ signer.old }
 {
-    match judged(alloc, signer, before, bytes, signature)? {
+    match judged(signer, before, bytes, signature)? {
         Some(own) => {
             append(out, bytes)?;
             Ok(Some(own))
@@ -349,15 +349,15 @@ fn append(out: &mut Vec<u8>, bytes: &[u8]) -> Mem<()>
 
 // The signature of a chunk's data over the signature before it, where it is the one that the chunk carries.
 fn judged(
-    alloc: Global,
-    signer: &ChunkSigner,
+    signer: &mut ChunkSigner,
     before: &str,
     bytes: &[u8],
     signature: &[u8],
 ) -> Mem<Option<String>>
-    ensures { IfOk result (JudgesChunk (chunk_signature bytes.now signer.now.signer signer.now.at before.now) signature.now) }
+    ensures judges { IfOk result (JudgesChunk (chunk_signature bytes.now signer.old.signer signer.old.at before.now) signature.now) }
+    ensures same { signer.new ≡ signer.old }
 {
-    let own = signer.chunk_signature(alloc, bytes, before)?;
+    let own = signer.chunk_signature(bytes, before)?;
     if constant_time_eq(own.as_bytes(), signature) {
         Ok(Some(own))
     } else {

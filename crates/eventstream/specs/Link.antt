@@ -16,11 +16,18 @@ use Rattle.eventstream.specs.Key.{Signer, scope, signing_key}
 abbrev pub date_header : Instant → Header
 date_header t = record { name = codes ":date"; value = Timestamp t }
 
+-- the lines with which a string to sign begins: the algorithm, the stamp and the scope
+abbrev pub begun_lines : List ℕ → List ℕ → List ℕ → List ℕ
+begun_lines algorithm stamp_text scope_text = line algorithm ++ line stamp_text ++ line scope_text
+
+-- those of messages and of chunks
+abbrev pub payload_lines : Instant → List ℕ → List ℕ → List ℕ
+payload_lines t region name = begun_lines (codes "AWS4-HMAC-SHA256-PAYLOAD") (stamp t) (scope t region name)
+
 -- the string to sign of bytes at a whole second, over the signature before
 unfoldable pub message_string_to_sign : Signer → List ℕ → List ℕ → Instant → List ℕ
 message_string_to_sign signer signature bytes t =
-    line (codes "AWS4-HMAC-SHA256-PAYLOAD") ++ line (stamp t) ++ line (scope t signer.region signer.name) ++ line signature
-    ++ line (encode_lower (sha256 (spelling (date_header t)))) ++ encode_lower (sha256 bytes)
+    payload_lines t signer.region signer.name ++ line signature ++ line (encode_lower (sha256 (spelling (date_header t)))) ++ encode_lower (sha256 bytes)
 
 -- the HMAC of a link
 unfoldable pub link_code : Signer → List ℕ → List ℕ → Instant → List ℕ

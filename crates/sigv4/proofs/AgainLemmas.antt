@@ -3,7 +3,7 @@ use Rattle.std.proofs.Common.{◌≡◌, ℕ, Bool, true, false, ◌&&◌, cond,
 use Rattle.std.specs.Prelude.{bytes_eq, codes}
 use Rattle.std.specs.List.{flat_map, join_with_byte, list_any}
 use Rattle.std.specs.Option.{option_or}
-use Rattle.std.proofs.lemmas.Bool.{and_parts, or_parts}
+use Rattle.std.proofs.lemmas.Bool.{and_parts}
 use Rattle.smithy_core.specs.Civil.{stamp}
 use Rattle.smithy_core.specs.TextPairs.{first_value, inserted, lower, named_values, without}
 use Rattle.smithy_core.specs.Text.{line}
@@ -14,15 +14,14 @@ use Rattle.sigv4.specs.Host.{host_text}
 use Rattle.sigv4.specs.Instructions.{with_instructions}
 use Rattle.sigv4.specs.Parameters.{target_text_with}
 use Rattle.sigv4.specs.Query.{Pair, decoded, query}
-use Rattle.sigv4.specs.Refusal.{is_lower_name, is_name, is_reserved, is_token_name, is_value, unfit, unfit_expiry, unfit_headers, unfit_host, unfit_host_text, unfit_optional, unfit_override, unfit_target, unfit_texts, unfit_token_name, unfit_value}
+use Rattle.sigv4.specs.Refusal.{is_name, is_value, unfit, unfit_expiry, unfit_headers, unfit_host, unfit_host_text, unfit_optional, unfit_target, unfit_texts, unfit_token_name, unfit_value}
 use Rattle.sigv4.specs.Request.{Case}
 use Rattle.sigv4.specs.Settings.{Settings, default_exclusions, is_query_form}
 use Rattle.sigv4.specs.Signature.{signature}
 use Rattle.sigv4.specs.Signed.{authorization, authorization_text, instructions, instructions_for, parameters, signature_of, signed_headers, signed_target}
 use Rattle.sigv4.specs.Trim.{trim_all}
-use Rattle.sigv4.specs.declared.error.SigningError.TheVariants.{InvalidTokenName}
 use Rattle.sigv4.specs.declared.error.ValuePlace.TheVariants.{Authorization, PayloadHash, Token}
-use Rattle.sigv4.proofs.FitLemmas.{both_none, fit-from_none, fit-instructions, fit-with, none-from_fit, passed, stamp-value}
+use Rattle.sigv4.proofs.FitLemmas.{HasOwnName, both_none, fit-from_none, fit-instructions, fit-with, none-from_fit, own_name, passed, stamp-value}
 use Rattle.sigv4.proofs.InsertedLemmas.{named-inserted_other, named-inserted_same, same_name, values_if}
 use Rattle.sigv4.proofs.SetLemmas.{among-set, any-filtered, any-named, flat_map-among, is_among, is_here, same_set}
 
@@ -158,27 +157,6 @@ module _ (settings : Settings) (xs ys : List Pair) (same : (name : List ℕ) →
       flat_map-among (header_line xs) (header_line ys) (signed_names settings xs)
       (λ name is. ap (λ values. line (name ++ codes ":" ++ join_with_byte 44 values)) (same name (among-signed name is)))
       ∙ ap (flat_map (header_line ys)) alike-names
-
--- ---- the token's name
-
--- the token's header has a header's name in lower case that isn't `host`
-record HasOwnName (name : List ℕ) : Type 0 where
-  is_lower : lower name ≡ name
-  is_fit : is_name name ≡ true
-  not_host : bytes_eq name (codes "host") ≡ false
-
-own_name : (settings : Settings) (given : Option (List ℕ)) → is_query_form settings ≡ false → unfit_override settings given ≡ None
-    → HasOwnName (unwrap_or given (codes "x-amz-security-token"))
-own_name settings None form e = record { is_lower = refl; is_fit = refl; not_host = refl }
-own_name settings (Some name) form e =
-    let parts = and_parts (not (is_reserved name)) _ (passed (is_token_name settings name) InvalidTokenName e) in
-    let header = and_parts (is_name name) _ (ap (λ b. cond b true (is_lower_name name)) (sym form) ∙ parts.1) in
-    let same : lower name ≡ name = same_name _ _ header.1 in
-    record { is_lower = same; is_fit = header.0; not_host = ap (λ n. bytes_eq n (codes "host")) (sym same) ∙ (or_parts _ _ (unreserved (is_reserved name) parts.0)).0 }
-  where
-    unreserved : (b : Bool) → not b ≡ true → b ≡ false
-    unreserved true e = absurd (true≢false (sym e))
-    unreserved false e = refl
 
 -- ---- a case in header form
 

@@ -2,7 +2,7 @@
 use Rattle.std.proofs.Common.{◌≡◌, ℕ, Bool, true, false, ◌&&◌, cond, List, [], ◌++◌, Option, Some, None, refl, sym, ap, ◌∙◌, append-nil}
 use Rattle.std.specs.Prelude.{if◌then◌else◌}
 use Rattle.std.specs.Option.{option_or}
-use Rattle.sigv4.specs.Canonical.{credential, joined_names, names, pairs, signed_token, signing_parameters, token_pairs, token_parameter, header_payload}
+use Rattle.sigv4.specs.Canonical.{credential, pairs, signed_token, signing_parameters, token_pairs, token_parameter, header_payload}
 use Rattle.sigv4.specs.Query.{Pair, decoded}
 use Rattle.sigv4.specs.Refusal.{is_value, unfit, unfit_early_text, unfit_expiry, unfit_headers, unfit_host, unfit_late_texts, unfit_optional, unfit_target, unfit_texts, unfit_token_name, unfit_unhashed, unfit_value, unless}
 use Rattle.sigv4.specs.Request.{Case}
@@ -11,7 +11,9 @@ use Rattle.sigv4.specs.Signed.{authorization}
 use Rattle.sigv4.specs.declared.error.SigningError.{SigningError}
 use Rattle.sigv4.specs.declared.error.SigningError.TheVariants.{InvalidHeaderValue}
 use Rattle.sigv4.specs.declared.error.ValuePlace.TheVariants.{Authorization, PayloadHash, Token}
-use Rattle.sigv4.proofs.SignatureLemmas.{authorization-value}
+use Rattle.sigv4.proofs.FitLemmas.{both_none}
+use Rattle.sigv4.proofs.JoinedNamesLemmas.{names-value}
+use Rattle.sigv4.proofs.SignatureLemmas.{and-true, authorization-value}
 
 abbrev Refused : Type 0
 Refused = Option SigningError
@@ -20,25 +22,35 @@ or-none : (refused : Refused) → option_or refused None ≡ refused
 or-none None = refl
 or-none (Some error) = refl
 
--- a text of two parts is tested as these are
-unless-both : (a b : Bool) (error : SigningError) → unless (a && b) error ≡ option_or (unless a error) (unless b error)
-unless-both true b error = refl
-unless-both false b error = refl
-
 -- the tests of two forms, each in two steps
-by_form : (is_query : Bool) (expiry token payload whole parts : Refused) → whole ≡ parts
-    → cond is_query expiry (option_or token (option_or payload whole)) ≡ option_or (cond is_query expiry token) (cond is_query None (option_or payload parts))
-by_form true expiry token payload whole parts same = sym (or-none expiry)
-by_form false expiry token payload whole parts same = ap (λ (last : Refused). option_or token (option_or payload last)) same
+by_form : (is_query : Bool) (expiry token rest : Refused)
+    → cond is_query expiry (option_or token rest) ≡ option_or (cond is_query expiry token) (cond is_query None rest)
+by_form true expiry token rest = sym (or-none expiry)
+by_form false expiry token rest = refl
+
+-- in header form the tests of the payload's text and of an authorization
+abbrev unfit_late : Case → List ℕ → Refused
+unfit_late c text = option_or (unfit_optional PayloadHash (header_payload c.settings.payload_checksum_kind c.payload)) (unfit_value Authorization text)
 
 abbrev late : Case → Refused
-late c = unfit_late_texts c.settings c.payload (credential c) (joined_names (names c))
+late c = if is_query_form c.settings then None else unfit_late c (authorization c)
 
 texts-split : (c : Case) → unfit_texts c ≡ option_or (unfit_early_text c.settings c.token) (late c)
 texts-split c =
-    by_form (is_query_form c.settings) (unfit_expiry c.settings.expires_in) (unfit_optional Token c.token)
-    (unfit_optional PayloadHash (header_payload c.settings.payload_checksum_kind c.payload)) (unfit_value Authorization (authorization c)) _
-    ((λ i. unless (authorization-value c i) (InvalidHeaderValue Authorization)) ∙ unless-both (is_value (credential c)) (is_value (joined_names (names c))) _)
+    by_form (is_query_form c.settings) (unfit_expiry c.settings.expires_in) (unfit_optional Token c.token) (unfit_late c (authorization c))
+
+-- where no test fails that needs no hash, the credential decides on the authorization
+late-fit : (c : Case) → unfit_unhashed c.settings c.target c.headers c.token ≡ None → late c ≡ unfit_late_texts c.settings c.payload (credential c)
+late-fit c fit = by (is_query_form c.settings) refl
+  where
+    by : (b : Bool) → is_query_form c.settings ≡ b → cond b None (unfit_late c (authorization c)) ≡ cond b None (unfit_late c (credential c))
+    by true form = refl
+    by false form =
+        let from_headers = both_none (unfit_headers 1 c.headers) _ (both_none (unfit_target c.settings c.target) _ fit).1 in
+        let from_name = both_none (unfit_token_name c.settings) _ (both_none (unfit_host c.target c.headers) _ from_headers.1).1 in
+        let same = authorization-value c ∙ ap (λ b. is_value (credential c) && b) (names-value c form from_headers.0 from_name.0)
+        ∙ and-true (is_value (credential c)) in
+        λ i. option_or (unfit_optional PayloadHash (header_payload c.settings.payload_checksum_kind c.payload)) (unless (same i) (InvalidHeaderValue Authorization))
 
 -- five tests, of which the last is made in two steps
 five : (target headers host name early late : Refused)
@@ -70,12 +82,12 @@ unfit-early c error d e early =
     unfit-split c ∙ (λ i. option_or (unfit_unhashed (sym d i) c.target c.headers (sym e i)) (late c)) ∙ (λ i. option_or (early i) (late c))
 
 -- no such test fails, and the others have this answer
-pub unfit-rest : (c : Case) {settings : Settings} {token : Option (List ℕ)} {payload key listed : List ℕ} (answer : Option SigningError)
-    → settings ≡ c.settings → token ≡ c.token → payload ≡ c.payload → key ≡ credential c → listed ≡ joined_names (names c)
-    → unfit_unhashed settings c.target c.headers token ≡ None → unfit_late_texts settings payload key listed ≡ answer → unfit c ≡ answer
-unfit-rest c answer d e f g h early rest =
-    unfit-split c ∙ (λ i. option_or (unfit_unhashed (sym d i) c.target c.headers (sym e i)) (late c)) ∙ (λ i. option_or (early i) (late c))
-    ∙ (λ i. unfit_late_texts (sym d i) (sym f i) (sym g i) (sym h i)) ∙ rest
+pub unfit-rest : (c : Case) {settings : Settings} {token : Option (List ℕ)} {payload key : List ℕ} (answer : Option SigningError)
+    → settings ≡ c.settings → token ≡ c.token → payload ≡ c.payload → key ≡ credential c
+    → unfit_unhashed settings c.target c.headers token ≡ None → unfit_late_texts settings payload key ≡ answer → unfit c ≡ answer
+unfit-rest c answer d e f g early rest =
+    let fit = (λ i. unfit_unhashed (sym d i) c.target c.headers (sym e i)) ∙ early in
+    unfit-split c ∙ (λ i. option_or (fit i) (late c)) ∙ late-fit c fit ∙ (λ i. unfit_late_texts (sym d i) (sym f i) (sym g i)) ∙ rest
 
 -- ---- the pairs that are signed
 

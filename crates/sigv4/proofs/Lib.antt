@@ -8,6 +8,7 @@ pub mod GatheredLemmas
 pub mod HeaderLemmas
 pub mod InsertedLemmas
 pub mod JoinLemmas
+pub mod JoinedNamesLemmas
 pub mod KeptKeyLemmas
 pub mod KeyLemmas
 pub mod LineLemmas

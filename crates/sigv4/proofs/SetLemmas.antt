@@ -5,11 +5,11 @@ use Rattle.std.specs.Cmp.{tied_itself}
 use Rattle.std.specs.Cmp.Lexicographic.{slice_cmp}
 use Rattle.std.specs.FinMap.{FinMap, contains_key-keys, entries, from_entries, get, get-from_entries, same_map}
 use Rattle.std.specs.FinMap.Entries.{is_some-find}
-use Rattle.std.specs.List.{flat_map, list_any}
+use Rattle.std.specs.List.{flat_map, list_all, list_any}
 use Rattle.std.specs.Ordering.{eq_by_cmp, is_eq, nat_cmp}
 use Rattle.std.specs.declared.cmp.Ordering.{Ordering}
 use Rattle.std.specs.declared.cmp.Ordering.TheVariants.{Less, Equal, Greater}
-use Rattle.std.proofs.lemmas.Bool.{and_right, or_right}
+use Rattle.std.proofs.lemmas.Bool.{and_parts, and_right, or_right}
 use Rattle.std.proofs.lemmas.Cmp.{eq_by_cmp_equiv, nat_list_cmp_total}
 use Rattle.std.proofs.lemmas.Map.Lookups.{exact_bytes}
 use Rattle.std.proofs.lemmas.Map.Text.{is_eq-slice_cmp}
@@ -74,6 +74,27 @@ any-filtered test text (t ∷ texts) = by_order (order text t) refl (test t) ref
     by_order Equal p false s again = failed (test text) (is_among text texts) _ (ap test (exact_bytes text t p) ∙ s) again
     by_order Greater p true s again = ap (λ o. is_eq o || is_among text (filter test texts)) p ∙ again
     by_order Greater p false s again = again
+
+-- what passes a test at each text that is among those of a list passes it at all
+pub all-among : (test : List ℕ → Bool) (texts : List (List ℕ)) → ((text : List ℕ) → is_among text texts ≡ true → test text ≡ true) → list_all test texts ≡ true
+all-among test [] passes = refl
+all-among test (t ∷ texts) passes =
+    let first = passes t (ap (λ o. is_eq o || is_among t texts) (tied_itself nat_list_cmp_total t)) in
+    let rest = all-among test texts (λ text is. passes text (or_right (eq_by_cmp order text t) (is_among text texts) is)) in
+    λ i. first i && rest i
+
+-- a text that is among those of a list passes a test that they all pass
+pub among-passes : (test : List ℕ → Bool) (text : List ℕ) (texts : List (List ℕ)) → list_all test texts ≡ true → is_among text texts ≡ true → test text ≡ true
+among-passes test text [] all is = absurd (true≢false (sym is))
+among-passes test text (t ∷ texts) all is =
+    let parts = and_parts (test t) (list_all test texts) all in
+    by_order (order text t) refl parts.0 (among-passes test text texts parts.1) is
+  where
+    by_order : (o : Ordering) → order text t ≡ o → test t ≡ true → (is_among text texts ≡ true → test text ≡ true)
+        → (is_eq o || is_among text texts) ≡ true → test text ≡ true
+    by_order Less p here again is = again is
+    by_order Equal p here again is = ap test (exact_bytes text t p) ∙ here
+    by_order Greater p here again is = again is
 
 -- what agrees at each text of a list gives the same, one after another
 pub flat_map-among : (f g : List ℕ → List ℕ) (texts : List (List ℕ)) → ((text : List ℕ) → is_among text texts ≡ true → f text ≡ g text) → flat_map f texts ≡ flat_map g texts

@@ -60,7 +60,7 @@ pub signature-value : (c : Case) → is_value (signature_of c) ≡ true
 unfolding signature_of signature
 signature-value c = encode-value _ (mac-bytes _ _)
 
-and-true : (b : Bool) → (b && true) ≡ b
+pub and-true : (b : Bool) → (b && true) ≡ b
 and-true true = refl
 and-true false = refl
 

@@ -13,20 +13,17 @@ use Rattle.smithy_core.specs.Civil.{stamp}
 use Rattle.smithy_core.specs.Moment.{Instant}
 use Rattle.smithy_core.specs.Text.{line}
 use Rattle.eventstream.specs.Key.{Signer, scope, signing_key}
+use Rattle.eventstream.specs.Link.{begun_lines, payload_lines}
 use Rattle.sigv4.specs.Output.{output_signature}
 use Rattle.sigv4.specs.Query.{Pair}
 use Rattle.sigv4.specs.declared.error.SigningError.{SigningError}
 use Rattle.sigv4.specs.declared.error.SigningError.TheVariants.{NoMemory}
 use Rattle.sigv4.specs.declared.output.SigningOutput.{SigningOutput}
 
--- the lines with which a string to sign begins: the algorithm, the stamp, the scope and the signature before
-abbrev pub begun_text : List ℕ → Signer → Instant → List ℕ → List ℕ
-begun_text algorithm signer t signature = line algorithm ++ line (stamp t) ++ line (scope t signer.region signer.name) ++ line signature
-
--- the string to sign of a chunk: after these lines the digest of nothing, and that of the chunk
+-- the string to sign of a chunk: after its first lines the signature before, the digest of nothing, and that of the chunk
 unfoldable pub chunk_string_to_sign : List ℕ → Signer → Instant → List ℕ → List ℕ
 chunk_string_to_sign chunk signer t signature =
-    begun_text (codes "AWS4-HMAC-SHA256-PAYLOAD") signer t signature ++ line (encode_lower (sha256 [])) ++ encode_lower (sha256 chunk)
+    payload_lines t signer.region signer.name ++ line signature ++ line (encode_lower (sha256 [])) ++ encode_lower (sha256 chunk)
 
 -- the trailer before the first one whose name isn't less
 abbrev pub placed_by_name : Pair → List Pair → List Pair
@@ -51,10 +48,11 @@ borrowed_pair pair = (pair.0.now, pair.1.now)
 unfoldable pub trailer_lines : List Pair → List ℕ
 trailer_lines trailers = flat_map canonical_trailer_line (by_name trailers)
 
--- the string to sign of trailers: after the first lines the digest of those of the trailers
+-- the string to sign of trailers: after its first lines the signature before, and the digest of the lines of the trailers
 unfoldable pub trailer_text : List Pair → Signer → Instant → List ℕ → List ℕ
 trailer_text trailers signer t signature =
-    begun_text (codes "AWS4-HMAC-SHA256-TRAILER") signer t signature ++ encode_lower (sha256 (trailer_lines trailers))
+    begun_lines (codes "AWS4-HMAC-SHA256-TRAILER") (stamp t) (scope t signer.region signer.name) ++ line signature
+    ++ encode_lower (sha256 (trailer_lines trailers))
 
 -- the HMAC of a string to sign under the signing key, in lower-case hexadecimal
 abbrev pub text_signature : Signer → Instant → List ℕ → List ℕ

@@ -136,13 +136,11 @@ unfit_unhashed settings target headers token =
     option_or (unfit_target settings target) (option_or (unfit_headers 1 headers) (option_or (unfit_host target headers)
     (option_or (unfit_token_name settings) (unfit_early_text settings token))))
 
--- in header form the first test that fails of the payload's text and of the parts of the authorization
-abbrev pub unfit_late_texts : Settings → List ℕ → List ℕ → List ℕ → Option SigningError
-unfit_late_texts settings payload credential_text names_text =
+-- in header form the first test that fails of the payload's text and of the authorization, of which only the credential may be no header's value
+abbrev pub unfit_late_texts : Settings → List ℕ → List ℕ → Option SigningError
+unfit_late_texts settings payload credential_text =
     if is_query_form settings then None
-    else
-    option_or (unfit_optional PayloadHash (header_payload settings.payload_checksum_kind payload))
-    (option_or (unfit_value Authorization credential_text) (unfit_value Authorization names_text))
+    else option_or (unfit_optional PayloadHash (header_payload settings.payload_checksum_kind payload)) (unfit_value Authorization credential_text)
 
 -- the host that is added to headers with names in lower case, exactly where no test fails that needs no hash
 abbrev pub FindsHost : Settings → Target → List Pair → Option (List ℕ) → Result (Option (Bor (List ℕ))) SigningError → Type 0

@@ -1,23 +1,17 @@
 -- What the links of one second are hashed with.
-use Rattle.std.specs.Prelude.{◌≡◌, ℕ, ℤ, List, ◌++◌, codes, Option, Some, None}
+use Rattle.std.specs.Prelude.{◌≡◌, ℤ, Option, Some, None}
 use Rattle.sha2.specs.Sha256.{sha256}
 use Rattle.hex.specs.Hex.{encode_lower}
 use Rattle.mac_core.specs.Mac.{HoldsMac, key_block}
-use Rattle.smithy_core.specs.Civil.{stamp}
 use Rattle.smithy_core.specs.Moment.{Instant}
-use Rattle.smithy_core.specs.Text.{line}
 use Rattle.eventstream.specs.Frame.{spelling}
-use Rattle.eventstream.specs.Key.{Signer, scope, signing_key}
-use Rattle.eventstream.specs.Link.{date_header}
+use Rattle.eventstream.specs.Key.{Signer, signing_key}
+use Rattle.eventstream.specs.Link.{date_header, payload_lines}
 use Rattle.sigv4.specs.declared.second_hasher.SecondHasher.{SecondHasher}
 
 -- the moment at which a second begins
 abbrev pub at_second : ℤ → Instant
 at_second secs = record { secs = secs; nanos = 0 }
-
--- the lines with which the strings to sign of messages and of chunks begin
-abbrev pub payload_lines : Instant → List ℕ → List ℕ → List ℕ
-payload_lines t region name = line (codes "AWS4-HMAC-SHA256-PAYLOAD") ++ line (stamp t) ++ line (scope t region name)
 
 -- the HMAC is that under the signing key of its second, after these lines, and the digest is that of the second's header `:date`
 pub record HashesFor (signer : Signer) (hasher : SecondHasher) : Type 0 where

@@ -7,12 +7,12 @@ use Rattle.hex.specs.Hex.{encode_lower}
 use Rattle.mac_core.specs.Mac.{mac}
 use Rattle.smithy_core.specs.Civil.{stamp}
 use Rattle.smithy_core.specs.Moment.{Instant}
-use Rattle.smithy_core.specs.Text.{line}
 use Rattle.eventstream.specs.Key.{Signer, scope, signing_key}
+use Rattle.eventstream.specs.Link.{begun_lines}
 
 -- the algorithm, a stamp, a scope and a digest, a line each, with no LF after the last
 abbrev pub string_to_sign_over : List ℕ → List ℕ → List ℕ → List ℕ
-string_to_sign_over stamp_text scope_text digest = line (codes "AWS4-HMAC-SHA256") ++ line stamp_text ++ line scope_text ++ digest
+string_to_sign_over stamp_text scope_text digest = begun_lines (codes "AWS4-HMAC-SHA256") stamp_text scope_text ++ digest
 
 -- that of the digest of a canonical text
 abbrev pub string_to_sign_of : List ℕ → List ℕ → List ℕ → List ℕ

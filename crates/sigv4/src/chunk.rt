@@ -1,9 +1,12 @@
-ghost use Rattle.std.specs.Prelude.{◌≡◌, ◌++◌, map, None, Some, IfOk, OnOk, MatchResult};
+ghost use Rattle.std.specs.Prelude.{◌≡◌, ◌++◌, ℕ, List, map, None, Some, IfOk, OnOk, MatchResult};
 ghost use Rattle.std.specs.List.{flat_map};
 ghost use Rattle.hex.specs.Hex.{encode_lower};
 ghost use Rattle.mac_core.specs.Mac.{mac};
-ghost use Rattle.eventstream.specs.Key.{signing_key};
-ghost use Rattle.sigv4.specs.Chunk.{SignsPart, begun_text, borrowed_pair, by_name, chunk_signature, chunk_string_to_sign, canonical_trailer_line, trailer_lines, trailer_signature, trailer_text};
+ghost use Rattle.smithy_core.specs.Civil.{stamp};
+ghost use Rattle.smithy_core.specs.Text.{line};
+ghost use Rattle.eventstream.specs.Key.{scope, signing_key};
+ghost use Rattle.eventstream.specs.Link.{begun_lines};
+ghost use Rattle.sigv4.specs.Chunk.{SignsPart, borrowed_pair, by_name, chunk_signature, chunk_string_to_sign, canonical_trailer_line, trailer_lines, trailer_signature, trailer_text};
 ghost use Rattle.sigv4.specs.EventStream.{unsignable};
 ghost use Rattle.sigv4.specs.Output.{output_signature};
 ghost use Rattle.sigv4.specs.Params.{signer_of, v4_identity, v4_time};
@@ -13,7 +16,7 @@ use crate::digest::sha256_digits;
 use crate::error::SigningError;
 use crate::output::SigningOutput;
 use crate::params::SigningParams;
-use crate::signature::{begun_string_to_sign, calculate_signature};
+use crate::signature::{PAYLOAD_ALGORITHM, begun_string_to_sign, calculate_signature};
 use crate::signing_time::{SigningTime, signing_time};
 use bytes::Bytes;
 use smithy_core::{Headers, Mem, push_line};
@@ -56,7 +59,8 @@ pub fn sign_trailer<S>(
         (trailer_signature headers.now (signer_of params.now) (v4_time params.now) running_signature.now) result }
 {
     let (key, time) = key_at(params)?;
-    let text = trailer_text(alloc, headers, &time, running_signature, params)?;
+    let (region, name) = (params.region(), params.name());
+    let text = trailer_text(alloc, headers, &time, running_signature, region, name)?;
     Ok(sign_text(alloc, &key, text.as_slice())?)
 }
 
@@ -93,43 +97,48 @@ fn chunk_string_to_sign<S>(
 ) -> Mem<Vec<u8>>
     ensures { IfOk result (λ text. text.items ≡ chunk_string_to_sign chunk.now (signer_of params.now) time.now running_signature.now) }
 {
-    let algorithm = b"AWS4-HMAC-SHA256-PAYLOAD";
-    let mut text = begun_text(alloc, algorithm, time, running_signature, params)?;
+    let algorithm = PAYLOAD_ALGORITHM.as_bytes();
+    let (region, name) = (params.region(), params.name());
+    let mut text = begun_text(alloc, algorithm, time, running_signature, region, name)?;
     push_line(&mut text, sha256_digits(b"").as_slice())?;
     text.extend_from_slice(sha256_digits(chunk).as_slice())?;
     Ok(text)
 }
 
-// The string to sign of trailers, where the time is that of the parameters.
+/// The string to sign of trailers, for a region and a name.
 #[tactic(auto, unfolding(crate::specs::Chunk::trailer_text))]
-fn trailer_text<S>(
+pub(crate) fn trailer_text(
     alloc: Global,
     headers: &Headers,
     time: &SigningTime,
     running_signature: &str,
-    params: &SigningParams<'_, S>,
+    region: &str,
+    name: &str,
 ) -> Mem<Vec<u8>>
-    ensures { IfOk result (λ text. text.items ≡ trailer_text headers.now (signer_of params.now) time.now running_signature.now) }
+    ensures { (secret : List ℕ) → IfOk result (λ text. text.items
+        ≡ trailer_text headers.now (record { secret = secret; region = region.now; name = name.now }) time.now running_signature.now) }
 {
     let lines = trailer_lines(alloc, headers)?;
     let algorithm = b"AWS4-HMAC-SHA256-TRAILER";
-    let mut text = begun_text(alloc, algorithm, time, running_signature, params)?;
+    let mut text = begun_text(alloc, algorithm, time, running_signature, region, name)?;
     text.extend_from_slice(sha256_digits(lines.as_slice()).as_slice())?;
     Ok(text)
 }
 
-// The lines with which a string to sign begins, where the time is that of the parameters.
-fn begun_text<S>(
+// The lines with which a string to sign begins, and the signature before.
+fn begun_text(
     alloc: Global,
     algorithm: &[u8],
     time: &SigningTime,
     running_signature: &str,
-    params: &SigningParams<'_, S>,
+    region: &str,
+    name: &str,
 ) -> Mem<Vec<u8>>
-    ensures { IfOk result (λ text. text.items ≡ begun_text algorithm.now (signer_of params.now) time.now running_signature.now) }
+    ensures { IfOk result (λ text. text.items
+        ≡ begun_lines algorithm.now (stamp time.now) (scope time.now region.now name.now) ++ line running_signature.now) }
 {
     let stamp = time.stamp();
-    let scope = time.scope_bytes(alloc, params.region(), params.name())?;
+    let scope = time.scope_bytes(alloc, region, name)?;
     let mut text = begun_string_to_sign(alloc, algorithm, stamp.as_slice(), scope.as_slice())?;
     push_line(&mut text, running_signature.as_bytes())?;
     Ok(text)

@@ -4,23 +4,28 @@ ghost use Rattle.mac_core.specs.Mac.{HoldsMac, key_block};
 ghost use Rattle.smithy_core.specs.Civil.{IsInYears};
 ghost use Rattle.eventstream.specs.Key.{signing_key};
 ghost use Rattle.eventstream.specs.Link.{link_code, link_message, link_signature};
+ghost use Rattle.sigv4.specs.Chunk.{chunk_signature, trailer_signature, trailer_text};
 ghost use Rattle.sigv4.specs.KeptKey.{derived_at, is_kept, kept_at, no_key};
 ghost use Rattle.sigv4.specs.Output.{output_signature, signed_output};
 ghost use Rattle.sigv4.specs.SecondHasher.{HashesFor};
 
+use crate::chunk::trailer_text;
 use crate::event_stream::{link, summed};
 use crate::key::generate_signing_key;
 use crate::output::SigningOutput;
 use crate::second_hasher::SecondHasher;
+use crate::signature::calculate_signature;
+use crate::signing_time::SigningTime;
 use mac_core::{Crc, HmacSha256};
-use smithy_core::{Mem, Message, Moment, is_same_day};
+use smithy_core::{Headers, Mem, Message, Moment, is_same_day};
 use std::fmt;
 use std::marker::Model;
 
 /// A signing key that is kept for the day that it holds for, and the number of keys that were derived.
 ///
-/// Deriving a key takes four HMACs, which is as long as the rest of the signing of a small message. What the messages of one
-/// second have in common is hashed once, too: the pads of the HMAC, the first lines of the string to sign, and the header `:date`.
+/// Deriving a key takes four HMACs, which is as long as the rest of the signing of a small message. What the messages and the chunks
+/// of one second have in common is hashed once, too: the pads of the HMAC, the first lines of the string to sign, and the header
+/// `:date`.
 ///
 /// ```rust
 /// let mut kept = KeptKey::new(secret, region, name);
@@ -154,6 +159,60 @@ impl KeptKey {
         Ok(code)
     }
 
+    /// The signature of a chunk of an upload over the signature before it, as [`v4::sign_chunk`](crate::v4::sign_chunk) has it.
+    /// The SDK has no such call.
+    ///
+    /// The moment has to lie in the years 0 to 9999.
+    pub fn chunk_signature(
+        &mut self,
+        chunk: &[u8],
+        running_signature: &str,
+        at: Moment,
+    ) -> Mem<String>
+        requires { IsInYears at }
+        ensures signature { IfOk result (λ text. string_bytes text ≡ chunk_signature chunk.now self.old.signer at running_signature.now) }
+        ensures kept { self.new ≡ kept_at self.old at }
+    {
+        self.keep(at);
+        let alloc = *self.region.allocator();
+        let second = self.take_second(at)?;
+        let signature = second.chunk_signature(alloc, chunk, running_signature)?;
+        self.second = Some(second);
+        Ok(signature)
+    }
+
+    /// The signature of the trailers of an upload over that of its empty chunk, as [`v4::sign_trailer`](crate::v4::sign_trailer)
+    /// has it: their names and values are taken as they are. The SDK has no such call.
+    ///
+    /// The moment has to lie in the years 0 to 9999.
+    #[tactic(auto, unfolding(crate::specs::Chunk::trailer_signature))]
+    pub fn trailer_signature(
+        &mut self,
+        headers: &Headers,
+        running_signature: &str,
+        at: Moment,
+    ) -> Mem<String>
+        requires { IsInYears at }
+        ensures signature { IfOk result (λ text. string_bytes text ≡ trailer_signature headers.now self.old.signer at running_signature.now) }
+        ensures kept { self.new ≡ kept_at self.old at }
+    {
+        self.keep(at);
+        let alloc = *self.region.allocator();
+        let text = self.trailer_text(headers, running_signature, at)?;
+        calculate_signature(alloc, self.day(at).key.as_slice(), text.as_slice())
+    }
+
+    // The string to sign of trailers.
+    fn trailer_text(&self, headers: &Headers, running_signature: &str, at: Moment) -> Mem<Vec<u8>>
+        requires { IsInYears at }
+        ensures { IfOk result (λ text. text.items ≡ trailer_text headers.now self.now.signer at running_signature.now) }
+    {
+        let alloc = *self.region.allocator();
+        let time = SigningTime::new(at).unwrap();
+        let (region, name) = (self.region.as_str(), self.name.as_str());
+        trailer_text(alloc, headers, &time, running_signature, region, name)
+    }
+
     /// How many keys were derived and kept. The number saturates. That [`KeptKey::key`] derives no other key beside them isn't
     /// promised: no clause speaks of what a call computes and drops.
     pub fn derivations(&self) -> u64
@@ -170,7 +229,7 @@ impl KeptKey {
             secret: self.secret.clone()?,
             region: self.region.clone()?,
             name: self.name.clone()?,
-            kept: day_copy(&self.kept)?,
+            kept: self.kept.as_ref().cloned()?,
             second: None,
             derivations: self.derivations,
         })
@@ -251,11 +310,10 @@ impl KeptKey {
     }
 }
 
-impl DayKey {
-    // The same key.
-    fn try_clone(&self) -> Mem<DayKey>
-        ensures { IfOk result (λ copy. copy ≡ self.now) }
-    {
+impl Clone for DayKey {
+    ghost is_clone = { λ day copy. copy ≡ day };
+
+    fn clone(&self) -> Mem<DayKey> {
         Ok(DayKey {
             at: self.at,
             key: self.key,
@@ -264,13 +322,12 @@ impl DayKey {
     }
 }
 
-fn day_copy(kept: &Option<DayKey>) -> Mem<Option<DayKey>>
-    ensures { IfOk result (λ copy. copy ≡ kept.now) }
-{
-    Ok(match kept {
-        Some(day) => Some(day.try_clone()?),
-        None => None,
-    })
+impl Clone for KeptKey {
+    ghost is_clone = { λ key copy. copy ≡ key };
+
+    fn clone(&self) -> Mem<KeptKey> {
+        self.try_clone()
+    }
 }
 
 // Shows neither the secret nor the key.

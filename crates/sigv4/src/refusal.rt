@@ -140,21 +140,20 @@ fn test_early_text(settings: &SigningSettings, token: Option<&str>) -> Result<()
 }
 
 /// Tests the texts that go into headers in header form, and for which the body is hashed or the headers are put in order:
-/// the payload's text where it has a header, and the authorization, whose other parts are always a header's value.
+/// the payload's text where it has a header, and the credential, since the other parts of the authorization are always a header's
+/// value.
 pub(crate) fn test_texts(
     settings: &SigningSettings,
     payload: &str,
     credential: &str,
-    names: &str,
 ) -> Result<(), SigningError>
-    ensures { Tests (unfit_late_texts (settings_of settings.now) payload.now credential.now names.now) result }
+    ensures { Tests (unfit_late_texts (settings_of settings.now) payload.now credential.now) result }
 {
     match settings.signature_location {
         SignatureLocation::QueryParams => Ok(()),
         SignatureLocation::Headers => {
             test_optional(ValuePlace::PayloadHash, header_payload(settings, payload))?;
-            test_value(ValuePlace::Authorization, credential)?;
-            test_value(ValuePlace::Authorization, names)
+            test_value(ValuePlace::Authorization, credential)
         }
     }
 }

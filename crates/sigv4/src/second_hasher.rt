@@ -1,4 +1,4 @@
-ghost use Rattle.std.specs.Prelude.{◌≡◌, ◌↔◌, ◌++◌, [], ℕ, List, IfOk, IsTrue};
+ghost use Rattle.std.specs.Prelude.{◌≡◌, ◌↔◌, ◌++◌, [], ℕ, List, IfOk, IsTrue, string_bytes};
 ghost use Rattle.sha2.specs.Sha256.{sha256};
 ghost use Rattle.hex.specs.Hex.{encode_lower};
 ghost use Rattle.mac_core.specs.Mac.{HoldsMac, key_block, mac_of_block};
@@ -7,24 +7,36 @@ ghost use Rattle.smithy_core.specs.Moment.{Instant, floor_secs};
 ghost use Rattle.smithy_core.specs.Text.{line};
 ghost use Rattle.eventstream.specs.Frame.{spelling};
 ghost use Rattle.eventstream.specs.Key.{Signer, signing_key};
-ghost use Rattle.eventstream.specs.Link.{date_header, link_code};
-ghost use Rattle.sigv4.specs.SecondHasher.{HashesFor, payload_lines};
+ghost use Rattle.eventstream.specs.Link.{date_header, link_code, payload_lines};
+ghost use Rattle.sigv4.specs.Chunk.{chunk_signature};
+ghost use Rattle.sigv4.specs.SecondHasher.{HashesFor};
 
 use crate::digest::sha256_digits;
-use crate::signature::begun_string_to_sign;
+use crate::signature::{PAYLOAD_ALGORITHM, begun_string_to_sign};
 use crate::signing_time::SigningTime;
 use eventstream::{ErrorKind, write_headers_to};
 use mac_core::HmacSha256;
 use smithy_core::{Header, HeaderValue, Mem, Moment, StrBytes};
 use std::alloc::{AllocError, Global};
 
-/// What the links of one second are hashed with: an HMAC under the signing key that has taken the lines with which their strings
-/// to sign begin, and the digest of their header `:date`.
-#[derive(Drop)]
+/// What the links and the chunks of one second are hashed with: an HMAC under the signing key that has taken the lines with which their strings
+/// to sign begin, and the digest of the links' header `:date`.
 pub(crate) struct SecondHasher {
     secs: i64,
     begun: HmacSha256,
     date_digits: [u8; 64],
+}
+
+// Written out: a derived drop would be taken apart in the proof of each function that drops one.
+impl Drop for SecondHasher {
+    fn drop(self) {
+        let SecondHasher {
+            secs: _,
+            begun,
+            date_digits: _,
+        } = self;
+        drop(begun);
+    }
 }
 
 impl SecondHasher {
@@ -66,6 +78,20 @@ impl SecondHasher {
         self.code(last_signature, &self.date_digits, bytes)
     }
 
+    /// The signature of a chunk, over the signature before it.
+    pub(crate) fn chunk_signature(
+        &self,
+        alloc: Global,
+        chunk: &[u8],
+        running_signature: &str,
+    ) -> Mem<String>
+        ensures { (signer : Signer) (t : Instant) → HashesFor signer self.now → self.now.secs ≡ t.secs
+            → IfOk result (λ text. string_bytes text ≡ chunk_signature chunk.now signer t running_signature.now) }
+    {
+        let code = self.code(running_signature, &sha256_digits(b""), chunk)?;
+        Ok(hex::encode(alloc, code.as_slice())?)
+    }
+
     // The HMAC of a string to sign, which ends with the signature before the bytes, a digest, and that of the bytes.
     fn code(&self, last_signature: &str, digits: &[u8; 64], bytes: &[u8]) -> Mem<[u8; 32]>
         ensures { (block lines : List ℕ) → HoldsMac self.now.begun block lines → IfOk result (λ code. code
@@ -89,7 +115,7 @@ fn payload_lines(alloc: Global, at: Moment, region: &str, name: &str) -> Mem<Vec
     let second = SigningTime::new(whole_second(at)).unwrap();
     let stamp = second.stamp();
     let scope = second.scope_bytes(alloc, region, name)?;
-    let algorithm = b"AWS4-HMAC-SHA256-PAYLOAD";
+    let algorithm = PAYLOAD_ALGORITHM.as_bytes();
     begun_string_to_sign(alloc, algorithm, stamp.as_slice(), scope.as_slice())
 }
 

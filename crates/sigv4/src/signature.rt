@@ -1,12 +1,12 @@
-ghost use Rattle.std.specs.Prelude.{◌≡◌, ◌++◌, ℕ, List, IfOk};
+ghost use Rattle.std.specs.Prelude.{◌≡◌, ℕ, List, IfOk};
 ghost use Rattle.std.specs.List.{list_all};
 ghost use Rattle.std.specs.String.{string_bytes};
 ghost use Rattle.hex.specs.Hex.{encode_lower};
 ghost use Rattle.mac_core.specs.Mac.{mac};
 ghost use Rattle.sha2.specs.Sha256.{sha256};
 ghost use Rattle.smithy_core.specs.Civil.{IsInYears, stamp};
-ghost use Rattle.smithy_core.specs.Text.{line};
 ghost use Rattle.eventstream.specs.Key.{scope, signing_key};
+ghost use Rattle.eventstream.specs.Link.{begun_lines};
 ghost use Rattle.sigv4.specs.Digest.{HoldsText};
 ghost use Rattle.sigv4.specs.Signature.{is_lower_digit, is_signature, signature, string_to_sign_of, string_to_sign_over};
 
@@ -16,6 +16,9 @@ use crate::signing_time::SigningTime;
 use mac_core::hmac_sha256;
 use smithy_core::{Mem, Moment, push_line};
 use std::alloc::Global;
+
+/// The algorithm with which the strings to sign of messages and of chunks begin.
+pub(crate) const PAYLOAD_ALGORITHM: &str = "AWS4-HMAC-SHA256-PAYLOAD";
 
 /// The signature of a string to sign: its HMAC under the signing key, in lower-case hexadecimal.
 pub fn calculate_signature(alloc: Global, signing_key: &[u8], string_to_sign: &[u8]) -> Mem<String>
@@ -126,7 +129,7 @@ pub(crate) fn begun_string_to_sign(
     stamp: &[u8],
     scope: &[u8],
 ) -> Mem<Vec<u8>>
-    ensures { IfOk result (λ text. text.items ≡ line algorithm.now ++ line stamp.now ++ line scope.now) }
+    ensures { IfOk result (λ text. text.items ≡ begun_lines algorithm.now stamp.now scope.now) }
 {
     let mut text = Vec::with_capacity(alloc, 320)?;
     push_line(&mut text, algorithm)?;

@@ -59,12 +59,7 @@ impl SigningTexts {
         let settings = params.settings();
         let host = test_request(request, settings, credentials.session_token())?;
         let texts = SigningTexts::with_host(alloc, request, params, credentials, time, host)?;
-        test_texts(
-            settings,
-            texts.payload.as_str(),
-            texts.credential.as_str(),
-            texts.names.as_str(),
-        )?;
+        test_texts(settings, texts.payload.as_str(), texts.credential.as_str())?;
         Ok(texts)
     }
 

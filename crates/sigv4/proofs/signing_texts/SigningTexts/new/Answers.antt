@@ -19,13 +19,13 @@ returns-in_err-test_texts c =
     rw (p.1, p.2)
     (inl
     (unfit-rest (v4_request_case c.args.request.now c.args.params.now) _ (ap settings_of c.settings-settings.ensures) token (c.as_str.ensures.value ∙ texts.payload)
-    (c.as_str-2.ensures.value ∙ texts.credential) (c.as_str-3.ensures.value ∙ texts.names) c.in_ok-host.ensures.0 c.in_err-test_texts.ensures))
+    (c.as_str-2.ensures.value ∙ texts.credential) c.in_ok-host.ensures.0 c.in_err-test_texts.ensures))
 
 pub returns : goal.returns
 returns c =
     let token = c.session_token.ensures ∙ c.requires.keys.token in
     let texts = c.in_ok-texts.ensures in (
       unfit-rest (v4_request_case c.args.request.now c.args.params.now) _ (ap settings_of c.settings-settings.ensures) token (c.as_str.ensures.value ∙ texts.payload)
-          (c.as_str-2.ensures.value ∙ texts.credential) (c.as_str-3.ensures.value ∙ texts.names) c.in_ok-host.ensures.0 c.in_ok-test_texts.ensures,
+          (c.as_str-2.ensures.value ∙ texts.credential) c.in_ok-host.ensures.0 c.in_ok-test_texts.ensures,
       texts,
     )
