@@ -13,8 +13,6 @@ import sys
 TWICE = {
     "Header": "the SDK has one in its signing and one in its messages",
     "SigningParams": "the SDK has one for each way of signing",
-    "Origin": "where awsign found a setting, and the SDK's",
-    "Received": "a request that awsign reads, and what a receiver answers",
     "Settings": "a record of the C header, and what programs sign with",
 }
 ROOT = pathlib.Path(__file__).resolve().parent.parent

@@ -19,7 +19,7 @@ events_status_line (Unframed place error) = tool_line (codes "event " ++ (decima
 events_status_line InputFault = tool_line (codes "could not read standard input")
 events_status_line TooLarge = tool_line (codes "the input has over 67108864 bytes")
 
--- what was said: what is said of other commands, or the line, or that memory ran out
+-- what was said of how a run ended: what is said of other commands, or its own line, or that memory ran out
 abbrev pub SaysEvents : List (List ℕ) → EventsStatus → Option (List ℕ) → Option (List ℕ) → Type 0
 SaysEvents words (Ended status) before now = Says words status before now
 SaysEvents words status before now = GainsSome before now (events_status_line status) ⊎ GainsSome before now (tool_line (codes "no memory"))

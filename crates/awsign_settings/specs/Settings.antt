@@ -12,8 +12,8 @@ use Rattle.awsign_settings.specs.declared.part.Part.{Part}
 use Rattle.awsign_settings.specs.declared.part.Part.TheVariants.{KeyId, Secret, Token, Region}
 use Rattle.awsign_settings.specs.declared.settings.KeySettings.{KeySettings}
 use Rattle.awsign_settings.specs.declared.settings.Settings.{Settings}
-use Rattle.awsign_settings.specs.declared.sourced.Origin.{Origin}
-use Rattle.awsign_settings.specs.declared.sourced.Origin.TheVariants.{Named, File, Unnamed}
+use Rattle.awsign_settings.specs.declared.sourced.FoundIn.{FoundIn}
+use Rattle.awsign_settings.specs.declared.sourced.FoundIn.TheVariants.{Named, File, Unnamed}
 use Rattle.awsign_settings.specs.declared.sourced.Sourced.{Sourced}
 
 -- ## Where a value comes from
@@ -141,7 +141,7 @@ settings_lack settings = lack_of (given_choice settings)
 -- ## Answers
 
 -- what contracts see of where a value came from
-abbrev pub whence_of : Origin → Whence
+abbrev pub whence_of : FoundIn → Whence
 whence_of (Named name) = by_name name.now
 whence_of (File path line) = by_file path.now line
 whence_of Unnamed = by_nothing

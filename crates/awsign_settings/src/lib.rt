@@ -22,5 +22,5 @@ pub use crate::own::{OwnProfile, own_profiles};
 pub use crate::part::Part;
 pub use crate::run::run_settings;
 pub use crate::settings::{KeySettings, Settings, lack, settings_of};
-pub use crate::sourced::{Origin, Sourced};
+pub use crate::sourced::{FoundIn, Sourced};
 pub use crate::value_line::property_line;

@@ -5,7 +5,7 @@ ghost use Rattle.awsign_settings.specs.Settings.{used_key_of, used_of, used_sett
 ghost use Rattle.awsign_settings.specs.Lines.{key_lines, missed_at, used_line, settings_text, value_shown, tabbed_line, whence_text};
 
 use crate::settings::{KeySettings, Settings};
-use crate::sourced::{Origin, Sourced};
+use crate::sourced::{FoundIn, Sourced};
 use smithy_core::{Mem, push_line};
 use std::alloc::Global;
 
@@ -117,13 +117,13 @@ fn last_four(bytes: &[u8]) -> &[u8]
     &bytes[bytes.len().saturating_sub(4)..]
 }
 
-fn whence_text(alloc: Global, origin: Origin<'_>) -> Mem<String>
+fn whence_text(alloc: Global, origin: FoundIn<'_>) -> Mem<String>
     ensures { IfOk result (λ text. string_bytes text ≡ whence_text (whence_of origin.entry)) }
 {
     match origin {
-        Origin::Named(name) => String::from_str(alloc, name),
-        Origin::File(path, None) => String::from_str(alloc, path),
-        Origin::File(path, Some(place)) => format!(in alloc; "{path}, line {place}"),
-        Origin::Unnamed => String::from_str(alloc, "not named"),
+        FoundIn::Named(name) => String::from_str(alloc, name),
+        FoundIn::File(path, None) => String::from_str(alloc, path),
+        FoundIn::File(path, Some(place)) => format!(in alloc; "{path}, line {place}"),
+        FoundIn::Unnamed => String::from_str(alloc, "not named"),
     }
 }

@@ -6,7 +6,7 @@ ghost use Rattle.awsign_settings.specs.Settings.{settings_lack, used_key, used_k
 
 use crate::own::OwnProfile;
 use crate::part::Part;
-use crate::sourced::{Origin, Sourced, from_files, from_option, from_variable};
+use crate::sourced::{FoundIn, Sourced, from_files, from_option, from_variable};
 use aws_settings::{SettingsFault, profile_name};
 use smithy_core::{Env, Mem};
 use std::alloc::Global;
@@ -59,7 +59,7 @@ fn used_profile<'a>(options: &'a Env, env: &'a Env) -> Sourced<'a>
     let named = from_option(options, "--profile").or(from_variable(env, "AWS_PROFILE"));
     named.unwrap_or(Sourced {
         value: "default",
-        origin: Origin::Unnamed,
+        origin: FoundIn::Unnamed,
     })
 }
 

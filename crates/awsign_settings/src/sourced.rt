@@ -11,7 +11,7 @@ use std::alloc::Global;
 
 /// Where a value came from.
 #[derive(Clone, Copy)]
-pub enum Origin<'a> {
+pub enum FoundIn<'a> {
     /// An option or a variable of this name.
     Named(&'a str),
     /// The profile file at this path, and the line in it, where that is found.
@@ -26,7 +26,7 @@ pub struct Sourced<'a> {
     /// The value.
     pub value: &'a str,
     /// Where it came from.
-    pub origin: Origin<'a>,
+    pub origin: FoundIn<'a>,
 }
 
 /// The value of an option.
@@ -36,7 +36,7 @@ pub(crate) fn from_option<'a>(options: &'a Env, word: &'static str) -> Option<So
     match options.get(word) {
         Some(value) => Some(Sourced {
             value,
-            origin: Origin::Named(word),
+            origin: FoundIn::Named(word),
         }),
         None => None,
     }
@@ -71,7 +71,7 @@ pub(crate) fn from_files<'a>(
     match last_part(owns, part) {
         Some((own, value)) => {
             let line = property_line(alloc, profile, &own.file, part, value)?;
-            let origin = Origin::File(own.path(), line);
+            let origin = FoundIn::File(own.path(), line);
             Ok(filled(Some(Sourced { value, origin })))
         }
         None => Ok(None),

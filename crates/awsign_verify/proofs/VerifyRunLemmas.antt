@@ -14,7 +14,7 @@ use Rattle.awsign_run.specs.Status.{load_status}
 use Rattle.awsign_run.specs.declared.status.Status.TheVariants.{Done, NoMemory, OutputFault}
 use Rattle.awsign_words.specs.Words.{VerifyWanted}
 use Rattle.awsign_verify.specs.VerifyRun.{IsFileFault, IsInputFault, JudgesInput, RanVerify, ReceivesAsked, ReceivesMessage, WritesText, most_message, read_verify_status}
-use Rattle.awsign_verify.specs.declared.run.Received.{Received}
+use Rattle.awsign_verify.specs.declared.run.ReceivedRequest.{ReceivedRequest}
 use Rattle.awsign_verify.specs.declared.status.VerifyStatus.{VerifyStatus}
 use Rattle.awsign_verify.specs.declared.status.VerifyStatus.TheVariants.{BadLine, Ended, InputFault, TooLarge, Wrong}
 
@@ -33,7 +33,7 @@ input_lacks verify_wanted left read.TooLarge none longer = (none, longer refl)
 input_lacks verify_wanted left read.NoMemory none longer = tt
 
 -- the request of bytes that are all of the input
-pub received_all : (verify_wanted : VerifyWanted) (left : Option (List ℕ)) (bytes : List ℕ) (result : Result Received VerifyStatus) → verify_wanted.named ≡ None → IsAllOf left bytes
+pub received_all : (verify_wanted : VerifyWanted) (left : Option (List ℕ)) (bytes : List ℕ) (result : Result ReceivedRequest VerifyStatus) → verify_wanted.named ≡ None → IsAllOf left bytes
     → ReceivesMessage bytes result → ReceivesAsked verify_wanted left result
 received_all verify_wanted left bytes (Ok received) none all receives = rw (none, receives.0) (all, receives.1)
 received_all verify_wanted left bytes (Err (BadLine place)) none all receives = rw none (bytes, all, receives)

@@ -11,7 +11,7 @@ use Rattle.awsign_run.specs.declared.status.Status.TheVariants.{CouldNotReadFile
 use Rattle.awsign_words.specs.Words.{OptionValues, VerifyWanted}
 use Rattle.awsign_verify.specs.Message.{HeadParts, head_parts, message_body, message_request}
 use Rattle.awsign_verify.specs.Verify.{JudgesBy}
-use Rattle.awsign_verify.specs.declared.run.Received.{Received}
+use Rattle.awsign_verify.specs.declared.run.ReceivedRequest.{ReceivedRequest}
 use Rattle.awsign_verify.specs.declared.status.VerifyStatus.{VerifyStatus}
 use Rattle.awsign_verify.specs.declared.status.VerifyStatus.TheVariants.{BadLine, Ended, InputFault, TooLarge}
 
@@ -55,14 +55,14 @@ IsInputFault verify_wanted left (Ended NoMemory) = Unit {0}
 IsInputFault verify_wanted left status = ⊥
 
 -- the request that these bytes spell was read of them, or their line at this place is bad; or memory ran out
-abbrev pub ReceivesMessage : List ℕ → Result Received VerifyStatus → Type 0
+abbrev pub ReceivesMessage : List ℕ → Result ReceivedRequest VerifyStatus → Type 0
 ReceivesMessage bytes (Ok received) = (received.bytes.items ≡ bytes) × (message_request bytes ≡ Ok (head_parts received.request))
 ReceivesMessage bytes (Err (BadLine place)) = message_request bytes ≡ Err place
 ReceivesMessage bytes (Err (Ended NoMemory)) = Unit {0}
 ReceivesMessage bytes (Err status) = ⊥
 
 -- the request that is asked about was received, or why it wasn't
-abbrev pub ReceivesAsked : VerifyWanted → Option (List ℕ) → Result Received VerifyStatus → Type 0
+abbrev pub ReceivesAsked : VerifyWanted → Option (List ℕ) → Result ReceivedRequest VerifyStatus → Type 0
 ReceivesAsked verify_wanted left (Ok received) =
     ReadsAsMuch verify_wanted.named left received.bytes.items
     × (asked_request verify_wanted verify_wanted.named received.bytes.items ≡ Ok (head_parts received.request))

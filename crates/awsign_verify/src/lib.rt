@@ -15,6 +15,6 @@ mod status;
 
 pub use crate::lines::verified_text;
 pub use crate::message::{HeadDraft, message_body, read_message};
-pub use crate::run::{Received, run_verify};
+pub use crate::run::{ReceivedRequest, run_verify};
 pub use crate::saying::say_verify;
 pub use crate::status::VerifyStatus;

@@ -24,7 +24,7 @@ const MOST_MESSAGE: usize = 67_108_864;
 
 /// A request, and the bytes of the input that it was read from.
 #[derive(Drop)]
-pub struct Received {
+pub struct ReceivedRequest {
     /// The request; its body isn't copied.
     pub request: HttpRequest,
     /// The bytes; none where the words name the request.
@@ -100,7 +100,7 @@ fn judge_received<D: Disk, C: Clock>(
     alloc: Global,
     options: &Env,
     env: &Env,
-    received: &Received,
+    received: &ReceivedRequest,
     disk: &mut D,
     clock: &mut C,
 ) -> Result<Vec<u8>, VerifyStatus>
@@ -124,12 +124,12 @@ fn receive<S: ByteSource>(
     alloc: Global,
     asked: &VerifyAsked<'_>,
     input: &mut S,
-) -> Result<Received, VerifyStatus>
+) -> Result<ReceivedRequest, VerifyStatus>
     ensures receives { ReceivesAsked (verify_wanted asked.now) (S.left input.old) result }
     ensures count { S.faults input.old ≤ S.faults input.new }
 {
     match asked.named {
-        Some((method, url)) => Ok(Received {
+        Some((method, url)) => Ok(ReceivedRequest {
             request: named_request(alloc, method, url, &asked.headers)?,
             bytes: Vec::new(alloc),
         }),
@@ -141,11 +141,11 @@ fn receive<S: ByteSource>(
 }
 
 // The request that the bytes spell.
-fn received_of(alloc: Global, bytes: Vec<u8>) -> Result<Received, VerifyStatus>
+fn received_of(alloc: Global, bytes: Vec<u8>) -> Result<ReceivedRequest, VerifyStatus>
     ensures { ReceivesMessage bytes.items result }
 {
     match read_message(alloc, bytes.as_slice()) {
-        Ok(request) => Ok(Received { request, bytes }),
+        Ok(request) => Ok(ReceivedRequest { request, bytes }),
         Err(JobFault::BadLine(place)) => Err(VerifyStatus::BadLine(place)),
         Err(JobFault::NoMemory) => Err(VerifyStatus::Ended(Status::NoMemory)),
     }
