@@ -27,7 +27,7 @@ use Rattle.signed_stream.specs.Sources.{selection, source_places}
 use Rattle.signed_stream.specs.Status.{Ending, could_not_read_file, output_fault, ended}
 use Rattle.signed_stream.specs.Stream.{job_texts}
 use Rattle.signed_stream.specs.Streaming.{Streams, TakesFor, stream_plan, stream_wanted}
-use Rattle.signed_stream.specs.declared.command.options.StreamWords.{StreamWords}
+use Rattle.signed_stream.specs.declared.command.stream.StreamWords.{StreamWords}
 use Rattle.signed_stream.specs.declared.status.StreamFault.{StreamFault}
 use Rattle.signed_stream.specs.declared.status.StreamFault.TheVariants as faults
 use Rattle.signed_stream.specs.declared.streaming.StreamOptions.{StreamOptions}
