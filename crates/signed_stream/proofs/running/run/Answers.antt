@@ -27,8 +27,8 @@ returns-in-Some-clause-headline g c =
       writes = said_writes _ _ _ _ said watch.writes;
     })
 
-pub returns-clause-headline : goal.returns-clause-headline
-returns-clause-headline g c =
+pub returns-in-None-clause-headline : goal.returns-in-None-clause-headline
+returns-in-None-clause-headline g c =
     let asked = c.in-None.ensures in
     let answer = c.answer-status.ensures in
     let said = c.say-in-None.ensures.answer in
@@ -72,8 +72,8 @@ returns-in-Some-clause-outside g c =
       c.say.ensures.count,
     )
 
-pub returns-clause-outside : goal.returns-clause-outside
-returns-clause-outside g c =
+pub returns-in-None-clause-outside : goal.returns-in-None-clause-outside
+returns-in-None-clause-outside g c =
     let asked = c.in-None.ensures in
     let answer = c.answer-status.ensures in
     rw asked (said_when _ _ _ _ answer.outside.0 c.say-in-None.ensures.answer, answer.outside.1, answer.reads.grew, answer.outside.2, answer.writes.grew, c.say-in-None.ensures.count)
@@ -102,17 +102,17 @@ returns-in-Some-clause-disk g c = let asked = c.in-Some.ensures in rw asked (tt,
 pub returns-in-Some-clause-unasked : goal.returns-in-Some-clause-unasked
 returns-in-Some-clause-unasked g c = let asked = c.in-Some.ensures in rw asked (unasked_watched (read_after_watch (map string_bytes c.in-Some.rest.now)) _ c.watch-status.ensures.unasked)
 
-pub returns-clause-untouched : goal.returns-clause-untouched
-returns-clause-untouched g c = let asked = c.in-None.ensures in rw asked c.answer-status.ensures.untouched
+pub returns-in-None-clause-untouched : goal.returns-in-None-clause-untouched
+returns-in-None-clause-untouched g c = let asked = c.in-None.ensures in rw asked c.answer-status.ensures.untouched
 
-pub returns-clause-unread : goal.returns-clause-unread
-returns-clause-unread g c = let asked = c.in-None.ensures in rw asked c.answer-status.ensures.unread
+pub returns-in-None-clause-unread : goal.returns-in-None-clause-unread
+returns-in-None-clause-unread g c = let asked = c.in-None.ensures in rw asked c.answer-status.ensures.unread
 
-pub returns-clause-disk : goal.returns-clause-disk
-returns-clause-disk g c =
+pub returns-in-None-clause-disk : goal.returns-in-None-clause-disk
+returns-in-None-clause-disk g c =
     let asked = c.in-None.ensures in
     let disk = c.answer-status.ensures.disk in
     rw asked (said_disk _ _ _ _ disk.0 c.say-in-None.ensures.answer, disk.1)
 
-pub returns-clause-unasked : goal.returns-clause-unasked
-returns-clause-unasked g c = let asked = c.in-None.ensures in rw asked c.answer-status.ensures.unasked
+pub returns-in-None-clause-unasked : goal.returns-in-None-clause-unasked
+returns-in-None-clause-unasked g c = let asked = c.in-None.ensures in rw asked c.answer-status.ensures.unasked
