@@ -35,7 +35,7 @@ length-recomputed method target headers settings payload signer seal = length-di
 
 -- so has that of an admitted request
 pub length-admitted : (asked : DoorInput) (who : Admitted) → IsAdmitted asked who → length (string_bytes who.signature) ≡ 64
-length-admitted asked who is = ap length (is.told.signature ∙ is.own) ∙ length-recomputed _ _ _ _ _ _ _
+length-admitted asked who is = ap length (is.stated.signature ∙ is.own) ∙ length-recomputed _ _ _ _ _ _ _
 
 within_if : (b : Bool) (value : List ℕ) (rest : Option (List ℕ)) (place count : ℕ) (secret : List ℕ) → (rest ≡ Some secret → place < count)
     → option_or (if b then Some value else None) rest ≡ Some secret → (if b then zero else suc place) < suc count
@@ -53,7 +53,7 @@ pub lets_in : (asked : DoorInput) (keys : List Key) (who : Admitted) (entry : En
     → first_value (map key_pair keys) is.reading.terms.key_id ≡ Some is.reading.secret → DescribesEntry keys who entry → LetsIn asked keys entry
 lets_in asked keys who entry is known describes =
     let within = rw (length-map keys key_pair) at (place_within (map key_pair keys) is.reading.terms.key_id is.reading.secret known) in
-    record { who = who; admitted = is; describes = describes; known = rw (describes.key, is.told.key_id) within }
+    record { who = who; admitted = is; describes = describes; known = rw (describes.key, is.stated.key_id) within }
 
 -- a refusal stays so where settings, moment and limits are said otherwise
 pub same_refusal : (sent : HttpRequest) (body region name : List ℕ) (secrets : List ℕ → Option (List ℕ)) (settings given : Settings) (now at : Instant) (skew expiry seconds : ℕ)

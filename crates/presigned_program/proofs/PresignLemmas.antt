@@ -316,7 +316,7 @@ same_meets name selected read request other now until is also (reading, in_time,
       reading,
       record {
         own = record {
-          has = record { whole = record { by_query = record { spelled = spelled; unauthorized = unauthorized }; once = whole.once }; told = in_time.own.has.told };
+          has = record { whole = record { by_query = record { spelled = spelled; unauthorized = unauthorized }; once = whole.once }; stated = in_time.own.has.stated };
           key = in_time.own.key;
         };
         good = in_time.good;
