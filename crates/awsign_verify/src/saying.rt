@@ -4,7 +4,7 @@ ghost use Rattle.std.specs.String.{string_bytes};
 ghost use Rattle.awsign_run.specs.Saying.{tool_line};
 ghost use Rattle.request_door.specs.DoorFaults.{door_fault_text};
 ghost use Rattle.awsign_verify.specs.VerifySaying.{SaysVerify, verify_status_line};
-ghost use Rattle.awsign_verify.specs.declared.status.VerifyStatus.TheVariants.{BadLine};
+ghost use Rattle.awsign_verify.specs.declared.status.VerifyStatus.TheVariants.{BadLine, Ended};
 
 use crate::status::VerifyStatus;
 use awsign_run::{Status, say, tool_line, write_some};
@@ -18,12 +18,22 @@ pub fn say_verify<E: ByteSink>(alloc: Global, words: &[String], status: &VerifyS
     ensures count { E.faults err.old ≤ E.faults err.new }
 {
     match status {
-        VerifyStatus::Ended(Status::OutputFault) => write_some("awsign: the output failed\n", err),
-        VerifyStatus::Ended(status) => say(alloc, words, status, err),
+        VerifyStatus::Ended(status) => say_ended(alloc, words, status, err),
         _ => match status_line(alloc, status) {
             Ok(line) => write_some(line.as_str(), err),
             Err(_) => write_some("awsign: no memory\n", err),
         },
+    }
+}
+
+// Says how a run ended as those of other commands; what is printed here is no signed request, so of the output just that it failed.
+fn say_ended<E: ByteSink>(alloc: Global, words: &[String], status: &Status, err: &mut E)
+    ensures said { SaysVerify (map string_bytes words.now) (Ended status.now) (E.held err.old) (E.held err.new) }
+    ensures count { E.faults err.old ≤ E.faults err.new }
+{
+    match status {
+        Status::OutputFault => write_some("awsign: the output failed\n", err),
+        _ => say(alloc, words, status, err),
     }
 }
 
