@@ -1,27 +1,13 @@
-ghost use Rattle.std.specs.Prelude.{◌≡◌, ◌⊎◌, IfOk, MatchResult, None, OnOk, OnErr, Some, string_bytes};
-ghost use Rattle.smithy_core.specs.Civil.{IsInYears};
-ghost use Rattle.sigv4.specs.EventStream.{unsignable};
+ghost use Rattle.std.specs.Prelude.{◌≡◌, IfOk, OnOk, OnErr, string_bytes};
 ghost use Rattle.aws_auth.specs.MessageSigner.{signer_in};
 
 use crate::message_signer::SigV4MessageSigner;
 use bytes::Bytes;
+use sigv4::parts::test_signing;
 use sigv4::{KeptKey, SignChunk, SigningError, SigningSettings};
-use smithy_core::{Headers, Identity, Mem, Moment, is_in_years};
+use smithy_core::{Headers, Mem};
 
 impl SigV4MessageSigner<SigningSettings> {
-    // The moment of the request, or why the identity doesn't sign at it.
-    fn signing_moment(&self) -> Result<Moment, SigningError>
-        ensures { MatchResult result
-            (λ at. (unsignable self.now.parts.identity self.now.parts.time ≡ None) × IsInYears at × (at ≡ self.now.parts.time))
-            (λ error. unsignable self.now.parts.identity self.now.parts.time ≡ Some error) }
-    {
-        match self.identity {
-            Identity::Token(_) => Err(SigningError::UnsupportedIdentityType),
-            Identity::Credentials(_) if is_in_years(self.time) => Ok(self.time),
-            Identity::Credentials(_) => Err(SigningError::MomentOutOfRange(self.time)),
-        }
-    }
-
     // The key of chunks and trailers, which is taken out, or else a new one.
     fn take_chunk_key(&mut self) -> Mem<KeptKey>
         ensures own { IfOk result (λ key. key.signer ≡ signer_in self.old) }
@@ -58,7 +44,8 @@ impl SignChunk for SigV4MessageSigner<SigningSettings> {
 
     #[tactic(auto, using(crate::proofs::ChunkSignerLemmas::told_goes_on))]
     fn chunk_signature(&mut self, chunk: &Bytes) -> Result<String, SigningError> {
-        let at = self.signing_moment()?;
+        let at = self.time;
+        test_signing(&self.identity, at)?;
         let mut key = self.take_chunk_key()?;
         let signature = key.chunk_signature(chunk.as_slice(), self.running_signature(), at);
         self.chunk_key = Some(key);
@@ -67,7 +54,8 @@ impl SignChunk for SigV4MessageSigner<SigningSettings> {
 
     #[tactic(auto, using(crate::proofs::ChunkSignerLemmas::told_goes_on))]
     fn trailer_signature(&mut self, trailing_headers: &Headers) -> Result<String, SigningError> {
-        let at = self.signing_moment()?;
+        let at = self.time;
+        test_signing(&self.identity, at)?;
         let mut key = self.take_chunk_key()?;
         let signature = key.trailer_signature(trailing_headers, self.running_signature(), at);
         self.chunk_key = Some(key);

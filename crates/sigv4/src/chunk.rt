@@ -11,13 +11,13 @@ ghost use Rattle.sigv4.specs.EventStream.{unsignable};
 ghost use Rattle.sigv4.specs.Output.{output_signature};
 ghost use Rattle.sigv4.specs.Params.{signer_of, v4_identity, v4_time};
 
-use crate::credentials::credentials_of;
+use crate::credentials::signer_at;
 use crate::digest::sha256_digits;
 use crate::error::SigningError;
 use crate::output::SigningOutput;
 use crate::params::SigningParams;
 use crate::signature::{PAYLOAD_ALGORITHM, begun_string_to_sign, calculate_signature};
-use crate::signing_time::{SigningTime, signing_time};
+use crate::signing_time::SigningTime;
 use bytes::Bytes;
 use smithy_core::{Headers, Mem, push_line};
 use std::alloc::Global;
@@ -71,8 +71,7 @@ fn key_at<S>(params: &SigningParams<'_, S>) -> Result<([u8; 32], SigningTime), S
         × (parts.1 ≡ v4_time params.now))
         (λ error. unsignable (v4_identity params.now) (v4_time params.now) ≡ Some error) }
 {
-    let credentials = credentials_of(params.identity())?;
-    let time = signing_time(params.time())?;
+    let (credentials, time) = signer_at(params.identity(), params.time())?;
     let secret = credentials.secret_access_key();
     let key = time.signing_key(secret, params.region(), params.name());
     Ok((key, time))

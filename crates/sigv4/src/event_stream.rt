@@ -3,7 +3,6 @@
 ghost use Rattle.std.specs.Prelude.{◌≡◌, ◌⊎◌, [], ◌∷◌, codes, IfOk, None, Some, MatchResult, option_map};
 ghost use Rattle.hex.specs.Hex.{encode_lower};
 ghost use Rattle.mac_core.specs.Crc.{after_bytes, before_any};
-ghost use Rattle.smithy_core.specs.Civil.{IsInYears};
 ghost use Rattle.smithy_core.specs.Moment.{floor_secs};
 ghost use Rattle.eventstream.specs.Frame.{frame, unframed};
 ghost use Rattle.eventstream.specs.Link.{date_header, link_code};
@@ -11,7 +10,7 @@ ghost use Rattle.sigv4.specs.Output.{output_signature, signed_output};
 ghost use Rattle.sigv4.specs.Params.{signer_of, v4_identity, v4_time};
 ghost use Rattle.sigv4.specs.EventStream.{IsKeyOf, Links, failed_encoding, message_refusal, unsignable};
 
-use crate::credentials::credentials_of;
+use crate::credentials::test_signing;
 use crate::error::SigningError;
 use crate::key::signing_key_of;
 use crate::output::SigningOutput;
@@ -19,7 +18,7 @@ use crate::second_hasher::{SecondHasher, date_header};
 use bytes::Bytes;
 use eventstream::write_summed_message_to;
 use mac_core::{Crc, HmacSha256};
-use smithy_core::{Header, HeaderValue, Mem, Message, Moment, StrBytes, is_in_years};
+use smithy_core::{Header, HeaderValue, Mem, Message, Moment, StrBytes};
 use std::alloc::Global;
 
 /// The parameters of a signed message, which have no settings.
@@ -194,7 +193,8 @@ pub fn link_code_with_key(
         × (code ≡ link_code (signer_of params.now) last_signature.now bytes.now (v4_time params.now)))
         (λ error. (unsignable (v4_identity params.now) (v4_time params.now) ≡ Some error) ⊎ (error ≡ SigningError.NoMemory)) }
 {
-    let at = signing_moment(params)?;
+    let at = params.time();
+    test_signing(params.identity(), at)?;
     let keyed = HmacSha256::new(key.as_slice());
     let hasher = SecondHasher::new(alloc, keyed, at, params.region(), params.name())?;
     Ok(hasher.link_code(bytes, last_signature)?)
@@ -216,21 +216,6 @@ fn framed(alloc: Global, message: &Message) -> Result<SummedFrame, SigningError>
     let mut bytes = Vec::new(alloc);
     let checksum = write_summed_message_to(alloc, message, &mut bytes)?;
     Ok(SummedFrame { bytes, checksum })
-}
-
-// The moment of the parameters, or why their identity doesn't sign at it.
-fn signing_moment(params: &SigningParams<'_>) -> Result<Moment, SigningError>
-    ensures { MatchResult result
-        (λ at. (unsignable (v4_identity params.now) (v4_time params.now) ≡ None) × IsInYears at × (at ≡ v4_time params.now))
-        (λ error. unsignable (v4_identity params.now) (v4_time params.now) ≡ Some error) }
-{
-    let _credentials = credentials_of(params.identity())?;
-    let at = params.time();
-    if is_in_years(at) {
-        Ok(at)
-    } else {
-        Err(SigningError::MomentOutOfRange(at))
-    }
 }
 
 /// The message of bytes that were signed with this HMAC, and the HMAC as a signature.

@@ -5,10 +5,10 @@ ghost use Rattle.eventstream.specs.Key.{scope, signing_key};
 ghost use Rattle.sigv4.specs.EventStream.{unsignable};
 ghost use Rattle.sigv4.specs.Params.{signer_of, v4_identity, v4_time};
 
-use crate::credentials::credentials_of;
+use crate::credentials::signer_at;
 use crate::error::SigningError;
 use crate::params::SigningParams;
-use crate::signing_time::{SigningTime, signing_time};
+use crate::signing_time::SigningTime;
 use smithy_core::{Mem, Moment};
 use std::alloc::Global;
 
@@ -35,8 +35,7 @@ pub fn signing_key_of<S>(params: &SigningParams<'_, S>) -> Result<[u8; 32], Sign
         (λ key. key ≡ signing_key (signer_of params.now) (v4_time params.now))
         (λ error. unsignable (v4_identity params.now) (v4_time params.now) ≡ Some error) }
 {
-    let credentials = credentials_of(params.identity())?;
-    let time = signing_time(params.time())?;
+    let (credentials, time) = signer_at(params.identity(), params.time())?;
     let secret = credentials.secret_access_key();
     Ok(time.signing_key(secret, params.region(), params.name()))
 }

@@ -3,6 +3,7 @@
 pub use crate::body::payload_text;
 pub use crate::canonical::{push_head, push_tail};
 pub use crate::canonical_query::EscapedPairs;
+pub use crate::credentials::test_signing;
 pub use crate::digest::TextDigest;
 pub use crate::host::host_text;
 pub use crate::path::canonical_path;

@@ -6,7 +6,7 @@ ghost use Rattle.sigv4.specs.Refusal.{unfit};
 ghost use Rattle.sigv4.specs.Request.{HasKeys, identity_of, request_case, v4_request_case};
 ghost use Rattle.sigv4.specs.RequestSigning.{IsRequestKey, SignsUnlessRefused, SignsCase, GivesCanonical};
 
-use crate::credentials::credentials_of;
+use crate::credentials::signer_at;
 use crate::error::SigningError;
 use crate::instructions::SigningInstructions;
 use crate::key::signing_key_of;
@@ -16,7 +16,7 @@ use crate::settings::SigningSettings;
 use crate::signed::instructions;
 use crate::signing_params::SigningParams;
 use crate::signing_texts::SigningTexts;
-use crate::signing_time::{SigningTime, signing_time};
+use crate::signing_time::SigningTime;
 use crate::v4;
 use smithy_core::Credentials;
 use std::alloc::Global;
@@ -127,8 +127,7 @@ fn sign_v4(
     requires { IsKeyOf params.now key.now }
     ensures { SignsCase (v4_identity params.now) (v4_request_case request.now params.now) result }
 {
-    let credentials = credentials_of(params.identity())?;
-    let time = signing_time(params.time())?;
+    let (credentials, time) = signer_at(params.identity(), params.time())?;
     sign_at(alloc, request, params, credentials, &time, key)
 }
 
@@ -166,8 +165,7 @@ pub fn canonical_text(
     ensures { GivesCanonical (identity_of params.now) (request_case request.now params.now) result }
 {
     let SigningParams::V4(params) = params;
-    let credentials = credentials_of(params.identity())?;
-    let time = signing_time(params.time())?;
+    let (credentials, time) = signer_at(params.identity(), params.time())?;
     let texts = SigningTexts::new(alloc, request, params, credentials, &time)?;
     Ok(texts.canonical)
 }

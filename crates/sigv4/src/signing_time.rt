@@ -1,8 +1,7 @@
-ghost use Rattle.std.specs.Prelude.{◌≡◌, true, false, IfOk, MatchOption, MatchResult, string_bytes};
-ghost use Rattle.smithy_core.specs.Civil.{IsInYears, is_in_years, stamp};
+ghost use Rattle.std.specs.Prelude.{◌≡◌, IfOk, MatchOption, string_bytes};
+ghost use Rattle.smithy_core.specs.Civil.{IsInYears, stamp};
 ghost use Rattle.eventstream.specs.Key.{scope, signing_key};
 
-use crate::error::SigningError;
 use mac_core::{HmacSha256, hmac_sha256};
 use smithy_core::{Civil, Mem, Moment, civil};
 use std::alloc::Global;
@@ -91,11 +90,4 @@ impl SigningTime {
         let service_key = hmac_sha256(region_key.as_slice(), name.as_bytes());
         hmac_sha256(service_key.as_slice(), b"aws4_request")
     }
-}
-
-/// The moment with its date and its time of day, or its refusal.
-pub(crate) fn signing_time(time: Moment) -> Result<SigningTime, SigningError>
-    ensures { MatchResult result (λ at. (at ≡ time) × (is_in_years time ≡ true)) (λ error. (error ≡ SigningError.MomentOutOfRange time) × (is_in_years time ≡ false)) }
-{
-    SigningTime::new(time).ok_or(SigningError::MomentOutOfRange(time))
 }
