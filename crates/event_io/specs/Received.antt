@@ -12,7 +12,7 @@ use Rattle.event_io.specs.declared.received.Received.TheVariants as received
 use Rattle.event_io.specs.declared.received.Tried.{Tried}
 use Rattle.event_io.specs.declared.received.Tried.TheVariants as tried
 
--- the type of event that the message tells which begins a stream
+-- the type of event of the message that begins a stream
 abbrev pub initial_text : InitialMessageType → List ℕ
 initial_text Request = codes "initial-request"
 initial_text Response = codes "initial-response"
@@ -23,7 +23,7 @@ first_named name headers = option_map (λ h. h.value) (find (λ h. bytes_eq h.na
 
 -- whether a value is this text
 abbrev pub is_text : List ℕ → HeaderValue → Bool
-is_text text value = option_map_or (λ told. bytes_eq told text) (string_of value) false
+is_text text value = option_map_or (λ bytes. bytes_eq bytes text) (string_of value) false
 
 -- whether a message begins a stream: its first `:event-type` is the text
 abbrev pub is_initial : InitialMessageType → Parts → Bool

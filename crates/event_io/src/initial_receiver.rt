@@ -145,7 +145,7 @@ fn is_text(value: &HeaderValue, text: &str) -> bool
     ensures { result ≡ is_text text.now value.now }
 {
     match value.as_string() {
-        Ok(told) => told.as_str() == text,
+        Ok(string) => string.as_str() == text,
         Err(_) => false,
     }
 }

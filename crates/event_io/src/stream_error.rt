@@ -9,15 +9,15 @@ use std::fmt;
 pub struct MessageStreamError {
     source: ErrorMetadata,
     // In place of the source, if nothing else is known of it.
-    told: Option<ErrorMetadata>,
+    metadata: Option<ErrorMetadata>,
 }
 
 // Written out: a derived drop would be taken apart in the proof of each function that drops one.
 impl Drop for MessageStreamError {
     fn drop(self) {
-        let MessageStreamError { source, told } = self;
+        let MessageStreamError { source, metadata } = self;
         drop(source);
-        drop(told);
+        drop(metadata);
     }
 }
 
@@ -32,7 +32,7 @@ impl MessageStreamError {
         };
         MessageStreamError {
             source: meta,
-            told: Some(empty),
+            metadata: Some(empty),
         }
     }
 
@@ -42,7 +42,7 @@ impl MessageStreamError {
     {
         MessageStreamError {
             source: meta,
-            told: None,
+            metadata: None,
         }
     }
 
@@ -57,8 +57,8 @@ impl MessageStreamError {
     pub fn meta(&self) -> &ErrorMetadata
         ensures { result.now ≡ metadata_of self.now }
     {
-        match &self.told {
-            Some(told) => told,
+        match &self.metadata {
+            Some(metadata) => metadata,
             None => &self.source,
         }
     }
@@ -67,13 +67,13 @@ impl MessageStreamError {
     pub fn try_clone(&self) -> Mem<MessageStreamError>
         ensures { IfOk result (IsSameStreamError self.now) }
     {
-        let told = match &self.told {
-            Some(told) => Some(told.try_clone()?),
+        let metadata = match &self.metadata {
+            Some(metadata) => Some(metadata.try_clone()?),
             None => None,
         };
         Ok(MessageStreamError {
             source: self.source.try_clone()?,
-            told,
+            metadata,
         })
     }
 }
