@@ -156,7 +156,7 @@ module _ (form : EventForm) (signer : Signer) (seed taken : List ℕ) (old : Ver
       → FeedsPiece old.watch piece [] new gained result ⊎ ((result ≡ Err chain.NoMemory) × DoesNothing old.watch [] new gained)
   fed_by_point (unclosed signature passed left) piece new gained result sound feeds = feeds
   fed_by_point (closed passed) piece new gained result sound feeds = feeds
-  fed_by_point (failed told) piece new gained result sound feeds = absurd (let wrong = sound in cc)
+  fed_by_point (failed fault) piece new gained result sound feeds = absurd (let wrong = sound in cc)
 
   module _ (piece : List ℕ) (new : Watching) (gained : List Parts) where
     -- the walk of a piece that was fed has the events that were handed out
@@ -193,7 +193,7 @@ module _ (form : EventForm) (signer : Signer) (seed taken : List ℕ) (old : Ver
           rw front.1 (by_status (walk_onto (so_far.events ++ gained) front.0) status among)
         where
           by_status : (walked : Walk) (status : EventsStatus) → StopsPrinting form walked.events status before now → StopsVerifying form walked status before now
-          by_status walked (Unverified told) stops = absurd stops
+          by_status walked (Unverified fault) stops = absurd stops
           by_status walked status stops = stops
 
       -- the watch goes on
@@ -206,7 +206,7 @@ module _ (form : EventForm) (signer : Signer) (seed taken : List ℕ) (old : Ver
             events = so_far.events ++ gained;
             signed = ap (λ (w : Watching). w.signer) watch ∙ fed.signer ∙ so_far.signed;
             walked = all_walk (Ok answer) fed all.0 ∙ ap (λ (w : Watching). record { events = so_far.events ++ gained; at = w.at }) (sym watch);
-            sound = subst (λ (w : Watching). IsOk (state w.at)) (sym watch) (subst (λ (told : Result Watched ChainFault). IsOk told) all.1 refl);
+            sound = subst (λ (w : Watching). IsOk (state w.at)) (sym watch) (subst (λ (state : Result Watched ChainFault). IsOk state) all.1 refl);
             prints = prints;
           }
           by_answer fed (inr want) = absurd (let wrong = want in cc)
@@ -217,22 +217,22 @@ module _ (form : EventForm) (signer : Signer) (seed taken : List ℕ) (old : Ver
           by_taken (inr none) = absurd (let wrong = none.0 in cc)
 
       -- the watch met a fault, and memory sufficed
-      fed_unverified : (told : ChainFault) (result : Result Watched ChainFault) → result ≡ Err told → (result ≡ Err chain.NoMemory → ⊥) → Feeds old.watch piece [] new gained result
-          → PrintsEvents form (so_far.events ++ gained) before now → StopsVerifying form (walk signer (seed_point seed) (taken ++ piece)) (Unverified told) before now
-      fed_unverified told result is roomy feeds prints = by_taken (fed_by_point old.watch.at piece new gained result so_far.sound feeds)
+      fed_unverified : (fault : ChainFault) (result : Result Watched ChainFault) → result ≡ Err fault → (result ≡ Err chain.NoMemory → ⊥) → Feeds old.watch piece [] new gained result
+          → PrintsEvents form (so_far.events ++ gained) before now → StopsVerifying form (walk signer (seed_point seed) (taken ++ piece)) (Unverified fault) before now
+      fed_unverified fault result is roomy feeds prints = by_taken (fed_by_point old.watch.at piece new gained result so_far.sound feeds)
         where
-          by_answer : FeedsPiece old.watch piece [] new gained result → AnswersState new result → StopsVerifying form (walk signer (seed_point seed) (taken ++ piece)) (Unverified told) before now
+          by_answer : FeedsPiece old.watch piece [] new gained result → AnswersState new result → StopsVerifying form (walk signer (seed_point seed) (taken ++ piece)) (Unverified fault) before now
           by_answer fed (inl all) = rw (all_walk result fed all.0) (sym all.1 ∙ is, prints)
           by_answer fed (inr want) = absurd (roomy want)
 
           by_taken : FeedsPiece old.watch piece [] new gained result ⊎ ((result ≡ Err chain.NoMemory) × DoesNothing old.watch [] new gained)
-              → StopsVerifying form (walk signer (seed_point seed) (taken ++ piece)) (Unverified told) before now
+              → StopsVerifying form (walk signer (seed_point seed) (taken ++ piece)) (Unverified fault) before now
           by_taken (inl fed) = by_answer fed fed.answer
           by_taken (inr none) = absurd (roomy none.0)
 
       -- the watch met a fault
-      pub fed_fault : (told : ChainFault) → Feeds old.watch piece [] new gained (Err told) → PrintsEvents form (so_far.events ++ gained) before now
-          → StopsVerifying form (walk signer (seed_point seed) (taken ++ piece)) (chain_status told) before now
+      pub fed_fault : (fault : ChainFault) → Feeds old.watch piece [] new gained (Err fault) → PrintsEvents form (so_far.events ++ gained) before now
+          → StopsVerifying form (walk signer (seed_point seed) (taken ++ piece)) (chain_status fault) before now
       fed_fault chain.NoMemory feeds prints =
           let front = fed_front (Err chain.NoMemory) feeds in rw front.1 (prints_front form (so_far.events ++ gained) front.0.events before now prints)
       fed_fault (chain.NotChain frame part) feeds prints = fed_unverified (chain.NotChain frame part) (Err (chain.NotChain frame part)) refl (λ is. let wrong = is in cc) feeds prints
@@ -254,16 +254,16 @@ module _ (form : EventForm) (signer : Signer) (seed taken : List ℕ) (old : Ver
   ends_done left gained done (inr want) = absurd (let wrong = want.0 in cc)
 
   -- the chain can't end behind it
-  pub ends_fault : (left : Option (List ℕ)) (gained : List Parts) (told : ChainFault) → IsAtEnd left → EndsWatch old.watch [] gained (Err told)
-      → EndsVerifying form (walk signer (seed_point seed) taken) left (chain_status told) before mid
+  pub ends_fault : (left : Option (List ℕ)) (gained : List Parts) (fault : ChainFault) → IsAtEnd left → EndsWatch old.watch [] gained (Err fault)
+      → EndsVerifying form (walk signer (seed_point seed) taken) left (chain_status fault) before mid
   ends_fault left gained chain.NoMemory done ends = rw so_far.walked (prints_whole form so_far.events before mid so_far.prints.0)
-  ends_fault left gained told done (inl ends) = rw so_far.walked (inr (done, ap ending reached ∙ sym ends.1), so_far.prints.0)
-  ends_fault left gained told done (inr want) = absurd (let wrong = want.0 in cc)
+  ends_fault left gained fault done (inl ends) = rw so_far.walked (inr (done, ap ending reached ∙ sym ends.1), so_far.prints.0)
+  ends_fault left gained fault done (inr want) = absurd (let wrong = want.0 in cc)
 
 -- what stops a walk ends the run
 pub stops_run : (form : EventForm) (walked : Walk) (left : Option (List ℕ)) (status : EventsStatus) (before now : Option (List ℕ)) → StopsVerifying form walked status before now
     → EndsVerifying form walked left status before now
-stops_run form walked left (Unverified told) before now stops = (inl stops.0, stops.1)
+stops_run form walked left (Unverified fault) before now stops = (inl stops.0, stops.1)
 stops_run form walked left (Unspelled place) before now stops = stops
 stops_run form walked left (Ended OutputFault) before now stops = stops
 stops_run form walked left (Ended NoMemory) before now stops = stops
@@ -280,7 +280,7 @@ fed_counts old new piece events gained answer feeds = by_point old.at feeds
     by_point : (at : Point) → FeedsAt at old piece events new gained (Ok answer) → new.fed ≡ old.fed + length piece
     by_point (unclosed signature passed left) feeds = by_taken feeds
     by_point (closed passed) feeds = by_taken feeds
-    by_point (failed told) feeds = absurd (let wrong = feeds.0 in cc)
+    by_point (failed fault) feeds = absurd (let wrong = feeds.0 in cc)
 
 -- ## The run
 

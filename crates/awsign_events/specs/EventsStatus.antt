@@ -17,7 +17,7 @@ events_code (Ended status) = status_code status
 events_code (WrongFrame place error) = 1
 events_code (CutShort place) = 1
 events_code (Unspelled place) = 1
-events_code (Unverified told) = 1
+events_code (Unverified fault) = 1
 events_code (BadLine place) = 1
 events_code (Unframed place error) = 1
 events_code InputFault = 3
@@ -37,4 +37,4 @@ line_status job.NoMemory = Ended NoMemory
 -- how a run ends at a fault of the chain
 abbrev pub chain_status : ChainFault → EventsStatus
 chain_status chain.NoMemory = Ended NoMemory
-chain_status told = Unverified told
+chain_status fault = Unverified fault

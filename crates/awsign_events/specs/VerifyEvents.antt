@@ -51,8 +51,8 @@ pub record PrintsUntil (form : EventForm) (events : List Parts) (place : ℕ) (b
 -- failed or memory ran out, a front of the events' texts is there. No event is printed that isn't one of the walk.
 abbrev pub EndsVerifying : EventForm → Walk → Option (List ℕ) → EventsStatus → Option (List ℕ) → Option (List ℕ) → Type 0
 EndsVerifying form walked left (Ended Done) before now = IsAtEnd left × (ending walked.at ≡ Ok tt) × PrintsEvents form walked.events before now
-EndsVerifying form walked left (Unverified told) before now =
-    ((state walked.at ≡ Err told) ⊎ (IsAtEnd left × (ending walked.at ≡ Err told))) × PrintsEvents form walked.events before now
+EndsVerifying form walked left (Unverified fault) before now =
+    ((state walked.at ≡ Err fault) ⊎ (IsAtEnd left × (ending walked.at ≡ Err fault))) × PrintsEvents form walked.events before now
 EndsVerifying form walked left InputFault before now = IsOk (state walked.at) × PrintsEvents form walked.events before now
 EndsVerifying form walked left (Unspelled place) before now = PrintsUntil form walked.events place before now
 EndsVerifying form walked left (Ended OutputFault) before now = PrintsFront form walked.events before now
@@ -137,7 +137,7 @@ pub record IsVerified (form : EventForm) (signer : Signer) (seed taken : List �
 
 -- how a walk stops a run before the input ends
 abbrev pub StopsVerifying : EventForm → Walk → EventsStatus → Option (List ℕ) → Option (List ℕ) → Type 0
-StopsVerifying form walked (Unverified told) before now = (state walked.at ≡ Err told) × PrintsEvents form walked.events before now
+StopsVerifying form walked (Unverified fault) before now = (state walked.at ≡ Err fault) × PrintsEvents form walked.events before now
 StopsVerifying form walked status before now = StopsPrinting form walked.events status before now
 
 -- the bytes taken are verified, or their walk stops the run

@@ -11,15 +11,15 @@ use Rattle.awsign_run.specs.declared.fault.Fault.{Fault}
 
 lacks_by : (paths : List ℕ) (planned : Result ChosenSettings Lack) (service : Option (List ℕ)) (found : Option Lack) (made : Fault) → IfSome found (λ lack. planned ≡ Err lack)
     → Some (refusal_of made) ≡ option_map (lack_refusal paths) found → IsFaultOf (signs_for (as_refused paths planned) service) made
-lacks_by paths planned service None made is told = absurd cc
-lacks_by paths planned service (Some lack) made is told =
+lacks_by paths planned service None made is refuses = absurd cc
+lacks_by paths planned service (Some lack) made is refuses =
     let same : refusal_of made ≡ lack_refusal paths lack = cc in
     inl (rw (is, same) refl)
 
 -- nobody signs
 pub nobody_without : (paths : List ℕ) (planned : Result ChosenSettings Lack) (service : Option (List ℕ)) (fault : SettingsFault) (made : Fault) → IsLackOf planned fault
     → Some (refusal_of made) ≡ option_map (lack_refusal paths) (lack_in fault) → IsFaultOf (signs_for (as_refused paths planned) service) made
-nobody_without paths planned service fault made is told = lacks_by paths planned service (lack_in fault) made is told
+nobody_without paths planned service fault made is refuses = lacks_by paths planned service (lack_in fault) made is refuses
 
 -- ## No part of a key is empty
 

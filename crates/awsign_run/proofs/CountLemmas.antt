@@ -13,9 +13,9 @@ use Rattle.awsign_run.specs.declared.status.Status.TheVariants.{Done, OutputFaul
 pub counts_nothing : (failed : Type 0) (count : ℕ) → (failed → ⊥) → CountsFault failed count count
 counts_nothing failed count other = record { rose = λ is. absurd (other is); stayed = λ none. refl; grew = omega arith }
 
--- what another answer tells of the same calls
-pub counts_alike : (failed told : Type 0) (before now : ℕ) → (told → failed) → (failed → told) → CountsFault failed before now → CountsFault told before now
-counts_alike failed told before now back forth counts =
+-- what another answer says of the same calls
+pub counts_alike : (failed answered : Type 0) (before now : ℕ) → (answered → failed) → (failed → answered) → CountsFault failed before now → CountsFault answered before now
+counts_alike failed answered before now back forth counts =
     record { rose = λ is. counts.rose (back is); stayed = λ other. counts.stayed (λ is. other (forth is)); grew = counts.grew }
 
 -- an answer that is handed on

@@ -39,9 +39,9 @@ impl<S: ByteSource, E: ByteSink> ProgressSource<S, E> {
 }
 
 impl<S: ByteSource, E: ByteSink> ByteSource for ProgressSource<S, E> {
-    ghost left = { λ told. S.left told.source };
+    ghost left = { λ progress. S.left progress.source };
 
-    ghost faults = { λ told. S.faults told.source };
+    ghost faults = { λ progress. S.faults progress.source };
 
     fn read(&mut self, into: &mut [u8]) -> Result<usize, Failed>
         ensures count { S.faults self.old.source ≤ S.faults self.new.source }

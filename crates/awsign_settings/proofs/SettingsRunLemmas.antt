@@ -31,15 +31,15 @@ module _ (paths : List ℕ) (options : OptionValues) (env : List (List ℕ × Li
 
   lacks_by : (planned : Result (List Own) Lack) (found : Option Lack) (made : Fault) → IfSome found (λ lack. planned ≡ Err lack)
       → Some (refusal_of made) ≡ option_map (lack_refusal paths) found → PrintsBy paths options env planned (Refused made) held held
-  lacks_by planned None made is told = absurd cc
-  lacks_by planned (Some lack) made is told =
+  lacks_by planned None made is refuses = absurd cc
+  lacks_by planned (Some lack) made is refuses =
       let same : refusal_of made ≡ lack_refusal paths lack = cc in
       rw (is, same) (refl, refl)
 
   -- a profile file with a faulty line
   pub files_faulty : (planned : Result (List Own) Lack) (fault : SettingsFault) (made : Fault) → IsLackOf planned fault
       → Some (refusal_of made) ≡ option_map (lack_refusal paths) (lack_in fault) → PrintsBy paths options env planned (Refused made) held held
-  files_faulty planned fault made is told = lacks_by planned (lack_in fault) made is told
+  files_faulty planned fault made is refuses = lacks_by planned (lack_in fault) made is refuses
 
 -- ## What can be signed
 
@@ -50,8 +50,8 @@ refused_by paths (Err other) lack is = let same : other ≡ lack = cc in rw same
 lacks_one : (paths : List ℕ) (settings : UsedSettings) (lacks : Option Lack) (found : Option Lack) (made : Fault) → settings_lack settings ≡ lacks
     → Some found ≡ option_map (λ (l : Lack). Some l) lacks → Some (refusal_of made) ≡ option_map (lack_refusal paths) found
     → Some (refusal_of made) ≡ settings_refusal paths settings
-lacks_one paths settings None found made lacks told refuses = absurd cc
-lacks_one paths settings (Some lack) found made lacks told refuses =
+lacks_one paths settings None found made lacks finds refuses = absurd cc
+lacks_one paths settings (Some lack) found made lacks finds refuses =
     let same : found ≡ Some lack = cc in
     let refusal : Some (refusal_of made) ≡ Some (lack_refusal paths lack) = rw same at refuses in
     rw (refused_by paths (given_choice settings) lack lacks) refusal
@@ -59,7 +59,7 @@ lacks_one paths settings (Some lack) found made lacks told refuses =
 -- what lacks is why nothing can be signed
 pub lack_refused : (paths : List ℕ) (settings : UsedSettings) (fault : SettingsFault) (made : Fault) → Some (lack_in fault) ≡ option_map (λ (l : Lack). Some l) (settings_lack settings)
     → Some (refusal_of made) ≡ option_map (lack_refusal paths) (lack_in fault) → Some (refusal_of made) ≡ settings_refusal paths settings
-lack_refused paths settings fault made told refuses = lacks_one paths settings (settings_lack settings) (lack_in fault) made refl told refuses
+lack_refused paths settings fault made finds refuses = lacks_one paths settings (settings_lack settings) (lack_in fault) made refl finds refuses
 
 tested : (empty : Bool) (settings : ChosenSettings) → refusal_in (if empty then Err empty_region else Ok settings) ≡ (if empty then Some empty_region else None)
 tested true settings = refl

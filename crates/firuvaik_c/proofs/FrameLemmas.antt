@@ -28,7 +28,7 @@ use Rattle.firuvaik_c.specs.declared.frames.HeaderPlace.{HeaderPlace}
 
 -- ## The length
 
--- what a prelude alone begins with is what it tells
+-- what a prelude alone begins with is what it spells
 prelude_first : (prelude : List ℕ) → length prelude ≡ 12 → first_of prelude ≡ first_behind prelude (read_prelude prelude)
 prelude_first prelude twelve =
     let whole : take 12 prelude ≡ prelude = take_all 12 prelude (omega (arith, twelve)) in
@@ -37,8 +37,8 @@ prelude_first prelude twelve =
 -- the frame of a prelude isn't there with the prelude alone
 more_than_prelude : (prelude : List ℕ) (lengths : Lengths) (kind : ErrorKind) → length prelude ≡ 12 → read_prelude prelude ≡ Ok lengths
     → first_behind prelude (Ok lengths) ≡ fault kind → ⊥
-more_than_prelude prelude lengths kind twelve told is =
-    let least = (prelude_told prelude lengths told).fit.least in
+more_than_prelude prelude lengths kind twelve known is =
+    let least = (prelude_told prelude lengths known).fit.least in
     let short : nat_lt (length prelude) lengths.total ≡ true = lt-ltb _ _ (omega (arith, twelve, least)) in
     let left = rw short at is in
     cc
@@ -50,9 +50,9 @@ prelude_fails prelude kind twelve (inr memory) = inr (ap frame_fault memory)
 prelude_fails prelude kind twelve (inl is) = inl (by_read (read_prelude prelude) refl)
   where
     by_read : (read : Result Lengths ErrorKind) → read_prelude prelude ≡ read → prelude_length read ≡ Err (frame_fault kind)
-    by_read (Ok lengths) told = absurd (more_than_prelude prelude lengths kind twelve told (ap (first_behind prelude) (sym told) ∙ sym (prelude_first prelude twelve) ∙ is))
-    by_read (Err other) told =
-        let same : fault other ≡ fault kind = ap (first_behind prelude) (sym told) ∙ sym (prelude_first prelude twelve) ∙ is in
+    by_read (Ok lengths) known = absurd (more_than_prelude prelude lengths kind twelve known (ap (first_behind prelude) (sym known) ∙ sym (prelude_first prelude twelve) ∙ is))
+    by_read (Err other) known =
+        let same : fault other ≡ fault kind = ap (first_behind prelude) (sym known) ∙ sym (prelude_first prelude twelve) ∙ is in
         let kinds : other ≡ kind = cc in
         ap (λ (k : ErrorKind). Err (frame_fault k)) kinds
 
@@ -67,8 +67,8 @@ prelude_passes prelude bytes found n twelve is same peeked =
     refuted (Some message) kind first peeked = let other = sym first ∙ peeked.1 in cc
 
     by_read : PeeksMessage prelude (Ok found) → (read : Result Lengths ErrorKind) → read_prelude prelude ≡ read → prelude_length read ≡ Ok n
-    by_read peeks (Ok lengths) told = ap (λ (k : ℕ). Ok k) ((prelude_told prelude lengths told).total ∙ sym is)
-    by_read peeks (Err kind) told = absurd (refuted found kind (prelude_first prelude twelve ∙ ap (first_behind prelude) told) peeks)
+    by_read peeks (Ok lengths) known = ap (λ (k : ℕ). Ok k) ((prelude_told prelude lengths known).total ∙ sym is)
+    by_read peeks (Err kind) known = absurd (refuted found kind (prelude_first prelude twelve ∙ ap (first_behind prelude) known) peeks)
 
 -- ## Where headers stand
 

@@ -54,7 +54,7 @@ pub length-trailer_signature : (trailers : List Pair) (signer : Signer) (t : Ins
 unfolding trailer_signature
 length-trailer_signature trailers signer t before = length-digits _ _
 
--- why a message has no frame, as the number that is told
+-- why a message has no frame, as a number
 pub encoding_fault : (reason : Option ErrorKind) (error : SigningError) → option_map failed_encoding reason ≡ Some error
     → option_map frame_fault reason ≡ Some (fault_of_signing error)
 encoding_fault None error is = cc
@@ -63,9 +63,9 @@ encoding_fault (Some kind) error is = ap (option_map fault_of_signing) is
 -- a link of equal parts
 pub link_same : (signer : LentSigner) (seconds : ℤ) (before secret region name code : List ℕ) (at : Instant) → secret ≡ signer.secret.now → region ≡ signer.region.now
     → name ≡ signer.service.now → at ≡ moment_at seconds → code ≡ before
-    → record { signer = record { secret = secret; region = region; name = name }; at = at; before = code } ≡ link_over signer seconds before
+    → record { signer = record { secret = secret; region = region; name = name }; at = at; previous_signature = code } ≡ link_over signer seconds before
 link_same signer seconds before secret region name code at key place service when same =
-    λ i. record { signer = record { secret = key i; region = place i; name = service i }; at = when i; before = same i }
+    λ i. record { signer = record { secret = key i; region = place i; name = service i }; at = when i; previous_signature = same i }
 
 able_if : (scope code years : Bool) → scope ≡ true → code ≡ true → years ≡ true → option_or (unless_utf8 (scope && code)) (if years then None else Some beyond_years) ≡ None
 able_if scope code years s c y = rw (s, c, y) refl

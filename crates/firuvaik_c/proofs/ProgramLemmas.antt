@@ -129,9 +129,9 @@ pub all_run : {E : Type 0} (world : World) (disk disk_now : List (List ℕ × Li
     (record { held_before = Some err; held_now = Some said; faults_before = 0; faults_now = 0 })
     → IfOk result (λ ran. ran.text.items ≡ held ++ held_err) → IfOk result (λ ran. ran.outcome ≡ record { code = exit_code end; output_length = length held })
     → IfOk result (HasRun world)
-all_run world disk disk_now clock clock_now input left out output err said held held_err end (Err e) files stays at reads writes says gave told went text outcome = tt
-all_run world disk disk_now clock clock_now input left out output err said held held_err end (Ok ran) files stays at reads writes says gave told went text outcome =
+all_run world disk disk_now clock clock_now input left out output err said held held_err end (Err e) files stays at reads writes says gave spoken went text outcome = tt
+all_run world disk disk_now clock clock_now input left out output err said held held_err end (Ok ran) files stays at reads writes says gave spoken went text outcome =
     let wrote = same_text output held gave in
-    let spoke = same_text said held_err told in
+    let spoke = same_text said held_err spoken in
     has_run world end left output said ran (runs_over world disk disk_now clock clock_now input left out output err said end files stays at reads writes says went)
     (rw (wrote, spoke) text) (rw wrote outcome)

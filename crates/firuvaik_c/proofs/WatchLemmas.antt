@@ -41,7 +41,7 @@ use Rattle.firuvaik_c.specs.declared.lent.Signer.{Signer as LentSigner}
 -- the lengths of a frame that was read: it is there whole
 record IsTotal (bytes : List ℕ) (found : Parts × ℕ) : Type 0 where
   lengths : Lengths
-  told : read_prelude (take 12 bytes) ≡ Ok lengths
+  spelled : read_prelude (take 12 bytes) ≡ Ok lengths
   total : lengths.total ≡ found.1
   announces : found.1 ≡ announced bytes
   whole : found.1 ≤ length bytes
@@ -52,16 +52,16 @@ read_total bytes found is =
     let prelude = take 12 bytes in
     let rest = drop 12 bytes in
     let some = refused_or (nat_lt (length bytes) 12) InvalidMessageLength (read_after prelude rest) found is in
-    let told = bound (read_prelude prelude) (λ lengths. read_frame lengths prelude rest) found some.1 in
-    let whole = refused_or (nat_lt (12 + length rest) told.0.total) InvalidMessageLength _ found told.2 in
-    let headed = bound (headers_within told.0.headers told.0.headers rest) (λ headers. checked_message told.0 prelude rest headers >>= λ message. Ok (message, told.0.total)) found whole.1 in
-    let checked = bound (checked_message told.0 prelude rest headed.0) (λ message. Ok (message, told.0.total)) found headed.2 in
-    let same : told.0.total ≡ found.1 = ap (λ (f : Parts × ℕ). f.1) (ok_same (checked.0, told.0.total) found checked.2) in
+    let spelled = bound (read_prelude prelude) (λ lengths. read_frame lengths prelude rest) found some.1 in
+    let whole = refused_or (nat_lt (12 + length rest) spelled.0.total) InvalidMessageLength _ found spelled.2 in
+    let headed = bound (headers_within spelled.0.headers spelled.0.headers rest) (λ headers. checked_message spelled.0 prelude rest headers >>= λ message. Ok (message, spelled.0.total)) found whole.1 in
+    let checked = bound (checked_message spelled.0 prelude rest headed.0) (λ message. Ok (message, spelled.0.total)) found headed.2 in
+    let same : spelled.0.total ≡ found.1 = ap (λ (f : Parts × ℕ). f.1) (ok_same (checked.0, spelled.0.total) found checked.2) in
     record {
-      lengths = told.0;
-      told = told.1;
+      lengths = spelled.0;
+      spelled = spelled.1;
       total = same;
-      announces = sym same ∙ (prelude_told prelude told.0 told.1).total ∙ announced_prelude bytes;
+      announces = sym same ∙ (prelude_told prelude spelled.0 spelled.1).total ∙ announced_prelude bytes;
       whole = omega (arith, same, ltb-false _ _ whole.0, ltb-false _ _ some.0, length-drop 12 bytes);
     }
 
@@ -89,7 +89,7 @@ one_first bytes message is =
     let n = total.lengths.total in
     let all : take n bytes ≡ bytes = take_all n bytes (omega (arith, total.total)) in
     let none : drop n bytes ≡ [] = ap (λ (k : ℕ). drop k bytes) total.total ∙ drop-length bytes in
-    first_whole bytes total.lengths total.told (omega (arith, total.total)) ∙ ap (λ (front : List ℕ). as_first n bytes (read front)) all
+    first_whole bytes total.lengths total.spelled (omega (arith, total.total)) ∙ ap (λ (front : List ℕ). as_first n bytes (read front)) all
     ∙ ap (as_first n bytes) is ∙ ap (begins message) none
 
 -- ## What the watch says
@@ -97,9 +97,9 @@ one_first bytes message is =
 -- the state behind a frame alone: it passes, or this is its fault
 abbrev SaysState : Result Passed ChainFault → Result Watched ChainFault → Type 0
 SaysState (Ok passed) (Ok watched) = Unit {0}
-SaysState (Ok passed) (Err told) = ⊥
+SaysState (Ok passed) (Err reported) = ⊥
 SaysState (Err fault) (Ok watched) = ⊥
-SaysState (Err fault) (Err told) = told ≡ fault
+SaysState (Err fault) (Err reported) = reported ≡ fault
 
 passed_state : (signer : Signer) (passed : Passed) (signature : List ℕ) (event : Option Parts)
     → SaysState (Ok passed) (state (walk_passed (walk_frames signer) 1 [] signature event).at)
@@ -108,20 +108,20 @@ passed_state signer passed signature (Some event) = rw (walk_first signer signat
 
 tested_state : (signer : Signer) (answer : Result Passed ChainFault) → SaysState answer (state (walk_tested (walk_frames signer) 0 [] answer).at)
 tested_state signer (Ok passed) = passed_state signer passed passed.signature passed.event
-tested_state signer (Err told) = refl
+tested_state signer (Err fault) = refl
 
 -- what a watch says of a frame alone, or memory ran out
 abbrev pub SaysOf : Result Passed ChainFault → Result Watched ChainFault → Type 0
 SaysOf (Ok passed) (Ok watched) = Unit {0}
-SaysOf (Ok passed) (Err told) = told ≡ NoMemory
+SaysOf (Ok passed) (Err reported) = reported ≡ NoMemory
 SaysOf (Err fault) (Ok watched) = ⊥
-SaysOf (Err fault) (Err told) = (told ≡ fault) ⊎ (told ≡ NoMemory)
+SaysOf (Err fault) (Err reported) = (reported ≡ fault) ⊎ (reported ≡ NoMemory)
 
 said : (answer : Result Passed ChainFault) (watched : Result Watched ChainFault) → SaysState answer watched → SaysOf answer watched
 said (Ok passed) (Ok watched) says = tt
-said (Ok passed) (Err told) says = absurd says
+said (Ok passed) (Err reported) says = absurd says
 said (Err fault) (Ok watched) says = absurd says
-said (Err fault) (Err told) says = inl says
+said (Err fault) (Err reported) says = inl says
 
 wanting : (answer : Result Passed ChainFault) → SaysOf answer (Err NoMemory)
 wanting (Ok passed) = refl
@@ -141,15 +141,15 @@ feeds_tested signer seed bytes message new gained result first (inl fed) = by_an
         let at : new.at ≡ (walk_tested (walk_frames signer) 0 [] answer).at = ap (λ w. w.at) (sym is.0) ∙ ap (λ w. w.at) walked in
         rw (is.1, at) (said answer _ (tested_state signer answer))
 
--- and so is the number that is told
-pub tests_one : (answer : Result Passed ChainFault) (told : ChainFault) (fault : Fault) → SaysOf answer (Err told) → fault ≡ chain_fault told → TestsOne answer (Err fault)
-tests_one (Ok passed) told fault says is = is ∙ ap chain_fault says
-tests_one (Err other) told fault (inl same) is = inl (is ∙ ap chain_fault same)
-tests_one (Err other) told fault (inr memory) is = inr (is ∙ ap chain_fault memory)
+-- and so is the number of its fault
+pub tests_one : (answer : Result Passed ChainFault) (reported : ChainFault) (fault : Fault) → SaysOf answer (Err reported) → fault ≡ chain_fault reported → TestsOne answer (Err fault)
+tests_one (Ok passed) reported fault says is = is ∙ ap chain_fault says
+tests_one (Err other) reported fault (inl same) is = inl (is ∙ ap chain_fault same)
+tests_one (Err other) reported fault (inr memory) is = inr (is ∙ ap chain_fault memory)
 
 pub tests_passed : (answer : Result Passed ChainFault) (watched : Watched) (done : Unit {0}) → SaysOf answer (Ok watched) → TestsOne answer (Ok done)
 tests_passed (Ok passed) watched done says = tt
-tests_passed (Err told) watched done says = absurd says
+tests_passed (Err fault) watched done says = absurd says
 
 -- ## The signature of a frame that passes
 
@@ -234,8 +234,8 @@ by_tests signer before bytes message scope code is =
 pub tests_failed : (signer : LentSigner) (before bytes : List ℕ) (answer : Result Passed ChainFault) (fault : Fault) → lent_signature signer before bytes ≡ passed_signature answer
     → TestsOne answer (Err fault) → (lent_signature signer before bytes ≡ Err fault) ⊎ (fault ≡ no_memory)
 tests_failed signer before bytes (Ok passed) fault is memory = inr memory
-tests_failed signer before bytes (Err told) fault is (inl same) = inl (is ∙ ap (λ (f : Fault). Err f) (sym same))
-tests_failed signer before bytes (Err told) fault is (inr memory) = inr memory
+tests_failed signer before bytes (Err reason) fault is (inl same) = inl (is ∙ ap (λ (f : Fault). Err f) (sym same))
+tests_failed signer before bytes (Err reason) fault is (inr memory) = inr memory
 
 -- a frame that passes has the signature that it carries
 pub tests_signed : (signer : LentSigner) (before bytes : List ℕ) (message : Parts) (digits code : List ℕ) (who : Signer) (done : Unit {0})
@@ -250,14 +250,14 @@ tests_signed signer before bytes message digits code who done is tests carries d
         let somes : Some found.0 ≡ Some code = sym found.1 ∙ carries in
         let same : found.0 ≡ code = cc in
         answered ∙ ap (λ (text : List ℕ). Ok text) (found.3 ∙ ap encode_lower same ∙ sym digits_are)
-    by_answer (Err told) tested answered ok = absurd ok
+    by_answer (Err fault) tested answered ok = absurd ok
 
 tests_carry : (message : Parts) (before : List ℕ) (who : Signer) (done : Unit {0}) → TestsOne (frame_test who before 1 message) (Ok done) → LacksCode message.headers → ⊥
 tests_carry message before who done tests lacks = by_answer (frame_test who before 1 message) refl tests
   where
     by_answer : (answer : Result Passed ChainFault) → frame_test who before 1 message ≡ answer → TestsOne answer (Ok done) → ⊥
     by_answer (Ok passed) tested ok = let found = passed_code who before 1 message passed tested in lacks found.0 found.1 found.2
-    by_answer (Err told) tested ok = ok
+    by_answer (Err fault) tested ok = ok
 
 -- and carries one, unless memory ran out
 pub carries_or_wants : (message : Parts) (before : List ℕ) (who : Signer) (done : Unit {0}) (fault : Fault) → TestsOne (frame_test who before 1 message) (Ok done)

@@ -24,14 +24,14 @@ keyless_at are_texts seconds = option_or (unless_utf8 are_texts) (if is_in_years
 
 -- why there is no link over a signature: a text isn't one, or the second lies outside the years
 abbrev pub linkless : Signer → ℤ → List ℕ → Option Fault
-linkless signer seconds before = keyless_at (is_text_scope signer && is_utf8 before) seconds
+linkless signer seconds previous_signature = keyless_at (is_text_scope signer && is_utf8 previous_signature) seconds
 
 -- what the signature of a link is made of: who signs it, when, and the signature before it
 pub record LinkParts : Type 0 where
   pub signer : KeySigner
   pub at : Instant
-  pub before : List ℕ
+  pub previous_signature : List ℕ
 
 -- the link of a signer at a second, over the signature before it
 abbrev pub link_over : Signer → ℤ → List ℕ → LinkParts
-link_over signer seconds before = record { signer = key_signer signer; at = moment_at seconds; before = before }
+link_over signer seconds previous_signature = record { signer = key_signer signer; at = moment_at seconds; previous_signature = previous_signature }

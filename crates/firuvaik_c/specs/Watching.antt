@@ -45,7 +45,7 @@ chain_fault NoMemory = no_memory
 -- the signature of a frame that passes the tests of a chain, or its fault
 abbrev pub passed_signature : Result Passed ChainFault → Result (List ℕ) Fault
 passed_signature (Ok passed) = Ok passed.signature
-passed_signature (Err told) = Err (chain_fault told)
+passed_signature (Err fault) = Err (chain_fault fault)
 
 -- the signature of bytes that are one frame and pass the tests over the signature before, or why they don't
 abbrev pub next_signature : KeySigner → List ℕ → List ℕ → Result (Parts × ℕ) ErrorKind → Result (List ℕ) Fault
@@ -92,8 +92,8 @@ ReadsAlone bytes (Err kind) (Err fault) = (fault ≡ frame_fault kind) ⊎ (faul
 abbrev pub TestsOne : Result Passed ChainFault → Result (Unit {0}) Fault → Type 0
 TestsOne (Ok passed) (Ok _) = Unit {0}
 TestsOne (Ok passed) (Err fault) = fault ≡ no_memory
-TestsOne (Err told) (Ok _) = ⊥
-TestsOne (Err told) (Err fault) = (fault ≡ chain_fault told) ⊎ (fault ≡ no_memory)
+TestsOne (Err reason) (Ok _) = ⊥
+TestsOne (Err reason) (Err fault) = (fault ≡ chain_fault reason) ⊎ (fault ≡ no_memory)
 
 -- the bytes of the first header's value
 abbrev pub first_code : List Header → Option (List ℕ)

@@ -61,11 +61,11 @@ fn next_chunk(
 // The line before a chunk, with its signature over the one before it.
 fn signed_chunk(alloc: Global, chunk: &[u8], link: &Link<'_>) -> Result<Made, SigningError>
     ensures { MakesText
-        (head_text (length chunk.now) (Some (chunk_signature chunk.now link.now.signer link.now.at link.now.before)))
-        (chunk_signature chunk.now link.now.signer link.now.at link.now.before) result }
+        (head_text (length chunk.now) (Some (chunk_signature chunk.now link.now.signer link.now.at link.now.previous_signature)))
+        (chunk_signature chunk.now link.now.signer link.now.at link.now.previous_signature) result }
 {
     let bytes = Bytes::copy_from_slice(alloc, chunk)?;
-    let signed = v4::sign_chunk(alloc, &bytes, link.before(), &link.params())?;
+    let signed = v4::sign_chunk(alloc, &bytes, link.previous_signature(), &link.params())?;
     let signature = code_of(&signed);
     let text = head_text(alloc, chunk.len(), Some(signed.signature()))?;
     Ok(Made { text, signature })
@@ -113,10 +113,10 @@ fn last_trailers(
 // The lines of trailers, and their signature over the one before it.
 fn signed_trailers(alloc: Global, headers: &Headers, link: &Link<'_>) -> Result<Made, SigningError>
     ensures { MakesText
-        (trailers_text headers.now (trailer_signature headers.now link.now.signer link.now.at link.now.before))
-        (trailer_signature headers.now link.now.signer link.now.at link.now.before) result }
+        (trailers_text headers.now (trailer_signature headers.now link.now.signer link.now.at link.now.previous_signature))
+        (trailer_signature headers.now link.now.signer link.now.at link.now.previous_signature) result }
 {
-    let signed = v4::sign_trailer(alloc, headers, link.before(), &link.params())?;
+    let signed = v4::sign_trailer(alloc, headers, link.previous_signature(), &link.params())?;
     let signature = code_of(&signed);
     let text = last_lines(alloc, Some(headers), Some(signed.signature()))?;
     Ok(Made { text, signature })

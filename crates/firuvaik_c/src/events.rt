@@ -57,16 +57,22 @@ fn next_frame(
 // The frame of the signed message of bytes, over the signature before it.
 fn linked(alloc: Global, event: &[u8], link: &Link<'_>) -> Result<Made, SigningError>
     ensures { MatchResult result
-        (λ made. GivesLink (link_message link.now.signer link.now.before event.now link.now.at)
-        (link_signature link.now.signer link.now.before event.now link.now.at) made)
-        (λ error. (option_map failed_encoding (unframed (link_message link.now.signer link.now.before event.now link.now.at)) ≡ Some error)
+        (λ made. GivesLink (link_message link.now.signer link.now.previous_signature event.now link.now.at)
+        (link_signature link.now.signer link.now.previous_signature event.now link.now.at) made)
+        (λ error. (option_map failed_encoding (unframed (link_message link.now.signer link.now.previous_signature event.now link.now.at)) ≡ Some error)
         ⊎ (error ≡ SigningError.NoMemory)) }
 {
     let params = link.params();
     let key = v4::signing_key_of(&params)?;
     let mut bytes = Vec::new(alloc);
     bytes.extend_from_slice(event)?;
-    let signed = event_stream::sign_bytes_with_key(alloc, bytes, link.before(), &params, &key)?;
+    let signed = event_stream::sign_bytes_with_key(
+        alloc,
+        bytes,
+        link.previous_signature(),
+        &params,
+        &key,
+    )?;
     let signature = code_of(&signed);
     let (message, _) = signed.into_parts();
     let mut text = Vec::new(alloc);

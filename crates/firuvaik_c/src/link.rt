@@ -57,7 +57,7 @@ pub(crate) struct Link<'a> {
     region: &'a str,
     service: &'a str,
     at: Moment,
-    before: &'a str,
+    previous_signature: &'a str,
 }
 
 impl<'a> Model for Link<'a> {
@@ -71,7 +71,7 @@ impl<'a> Model for Link<'a> {
     ghost view = { λ link. record {
       signer = record { secret = secret_of link.identity; region = link.region.now; name = link.service.now };
       at = link.at;
-      before = link.before.now;
+      previous_signature = link.previous_signature.now;
     } };
 
     ghost invariant = { λ link. IsCredentials link.identity × (is_in_years link.at ≡ true) };
@@ -83,14 +83,14 @@ impl<'a> Link<'a> {
         alloc: Global,
         signer: &Signer<'a>,
         seconds: i64,
-        before: &'a [u8; 64],
+        previous_signature: &'a [u8; 64],
     ) -> Result<Link<'a>, Fault>
         ensures { MatchResult result
-            (λ link. (linkless signer.now seconds before.now ≡ None) × (link ≡ link_over signer.now seconds before.now))
-            (λ fault. (linkless signer.now seconds before.now ≡ Some fault) ⊎ (fault ≡ no_memory)) }
+            (λ link. (linkless signer.now seconds previous_signature.now ≡ None) × (link ≡ link_over signer.now seconds previous_signature.now))
+            (λ fault. (linkless signer.now seconds previous_signature.now ≡ Some fault) ⊎ (fault ≡ no_memory)) }
     {
         let texts = scope_texts(signer)?;
-        let before = text_of(before.as_slice())?;
+        let previous_signature = text_of(previous_signature.as_slice())?;
         let at = Moment::new(seconds, 0);
         test_years(at)?;
         let identity = nameless(alloc, texts.secret)?;
@@ -99,15 +99,15 @@ impl<'a> Link<'a> {
             region: texts.region,
             service: texts.service,
             at,
-            before,
+            previous_signature,
         })
     }
 
     /// The signature before it.
-    pub(crate) fn before(&self) -> &str
-        ensures { result.now ≡ self.now.before }
+    pub(crate) fn previous_signature(&self) -> &str
+        ensures { result.now ≡ self.now.previous_signature }
     {
-        self.before
+        self.previous_signature
     }
 
     /// The parameters of its signature.

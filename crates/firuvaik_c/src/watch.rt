@@ -67,10 +67,10 @@ fn checked_frame(
     ensures { PassesFrame signer.now frame.now signature.now result }
 {
     let texts = scope_texts(signer)?;
-    let before = text_of(signature.as_slice())?;
+    let previous_signature = text_of(signature.as_slice())?;
     let bytes = Bytes::copy_from_slice(alloc, frame)?;
     let message = one_message(alloc, &bytes)?;
-    test_link(alloc, &texts, before, bytes)?;
+    test_link(alloc, &texts, previous_signature, bytes)?;
     let signature = carried_signature(alloc, &message)?;
     let parts = parts_of(frame, &message);
     Ok(CheckedFrame { signature, parts })
@@ -102,11 +102,22 @@ fn one_message(alloc: Global, bytes: &Bytes) -> Result<Message, Fault>
 }
 
 // Tests bytes that are one frame, over the signature before it.
-fn test_link(alloc: Global, texts: &ScopeTexts<'_>, before: &str, frame: Bytes) -> Result<(), Fault>
+fn test_link(
+    alloc: Global,
+    texts: &ScopeTexts<'_>,
+    previous_signature: &str,
+    frame: Bytes,
+) -> Result<(), Fault>
     ensures { (message : Parts) → first_of frame ≡ begins message [] → TestsOne (frame_test
-        (record { secret = texts.now.secret.now; region = texts.now.region.now; name = texts.now.service.now }) before.now 1 message) result }
+        (record { secret = texts.now.secret.now; region = texts.now.region.now; name = texts.now.service.now }) previous_signature.now 1 message) result }
 {
-    let mut watch = ChainWatch::new(alloc, before, texts.secret, texts.region, texts.service)?;
+    let mut watch = ChainWatch::new(
+        alloc,
+        previous_signature,
+        texts.secret,
+        texts.region,
+        texts.service,
+    )?;
     let mut events = Vec::new(alloc);
     match watch.feed(frame, &mut events) {
         Ok(_) => Ok(()),

@@ -121,7 +121,7 @@ module _ (s : Scripted) (parts : OperationParts) (is : IsPartsOf s parts) (bag :
   -- it is refused
   refused_for : (before : List Round) (error : SigV4SigningError) → RefusesSigning parts (attempt_bag bag before) s.at error
       → RefusesFor s.request.target (scripted_moment s before) (scripted_case s before) error
-  refused_for before error refusal = by_years (is_in_years at) refl reads (tells refusal.target refusal.refused)
+  refused_for before error refusal = by_years (is_in_years at) refl reads (refuses refusal.target refusal.refused)
     where
       at : Instant
       at = scripted_moment s before
@@ -132,16 +132,16 @@ module _ (s : Scripted) (parts : OperationParts) (is : IsPartsOf s parts) (bag :
       reads : out_of_years at ≡ None → SpellsAs s.request.target refusal.target
       reads fine = rw is.target at (refusal.read (is.before skew) (rw (is.chosen_is skew, skew_is bag begun before) fine))
 
-      tells : (target : Option Target) → attempt_refusal parts (attempt_bag bag before) s.at target ≡ Some error
+      refuses : (target : Option Target) → attempt_refusal parts (attempt_bag bag before) s.at target ≡ Some error
           → option_or (out_of_years at) (option_map Signing (unsigned_target (scripted_case s before) target)) ≡ Some error
-      tells None failed = rw (is.before skew, is.chosen_is skew, skew_is bag begun before) at failed
-      tells (Some target) failed = rw (is.before skew, case_is before target, is.chosen_is skew, skew_is bag begun before) at failed
+      refuses None failed = rw (is.before skew, is.chosen_is skew, skew_is bag begun before) at failed
+      refuses (Some target) failed = rw (is.before skew, case_is before target, is.chosen_is skew, skew_is bag begun before) at failed
 
       by_years : (years : Bool) → is_in_years at ≡ years → (out_of_years at ≡ None → SpellsAs s.request.target refusal.target)
           → option_or (if years then None else Some (Signing (MomentOutOfRange at))) (option_map Signing (unsigned_target (scripted_case s before) refusal.target)) ≡ Some error
           → RefusesFor s.request.target at (scripted_case s before) error
-      by_years false outside spelled told = outside_refuses _ at _ error outside (let same : error ≡ Signing (MomentOutOfRange at) = cc in same)
-      by_years true within spelled told = target_refuses _ at _ error refusal.target within (spelled (rw within refl)) told
+      by_years false outside spelled stopped = outside_refuses _ at _ error outside (let same : error ≡ Signing (MomentOutOfRange at) = cc in same)
+      by_years true within spelled stopped = target_refuses _ at _ error refusal.target within (spelled (rw within refl)) stopped
 
   -- ## Attempt after attempt
 
@@ -265,9 +265,9 @@ module _ (s : Scripted) (parts : OperationParts) (is : IsPartsOf s parts) (bag :
         )
 
     -- a request is refused
-    known_refused : count < attempts bag (scripted_rounds s) → (target : Target) → TargetSpells s.request.target (accepted target) → (told : RunFault) → scripted_fault s (accepted target) last ≡ Some told
-        → operation_outcome s (accepted target) ≡ Err (usual (refused told))
-    known_refused below target spells told is =
+    known_refused : count < attempts bag (scripted_rounds s) → (target : Target) → TargetSpells s.request.target (accepted target) → (reason : RunFault) → scripted_fault s (accepted target) last ≡ Some reason
+        → operation_outcome s (accepted target) ≡ Err (usual (refused reason))
+    known_refused below target spells reason is =
         let rounds = scripted_rounds s in
         let all = fronts [] rounds in
         let got = sends_all target spells [] given later sent were_sent in
@@ -275,53 +275,53 @@ module _ (s : Scripted) (parts : OperationParts) (is : IsPartsOf s parts) (bag :
         let sent_of = scripted_request s target in
         let alike = tries_are bag begun rounds in
         let fits : suc count ≤ tries rounds = omega (arith, alike, below) in
-        let first : first_there (map fault (take (suc count) all)) ≡ Some told = (ap (λ m. first_there (map fault m)) made_next ∙ ap first_there (map-append fault answered_fronts (last ∷ []))
+        let first : first_there (map fault (take (suc count) all)) ≡ Some reason = (ap (λ m. first_there (map fault m)) made_next ∙ ap first_there (map-append fault answered_fronts (last ∷ []))
         ∙ first_there-append (map fault answered_fronts) (fault last ∷ []) ∙ ap (λ f. option_or f (option_or (fault last) None)) got.1 ∙ ap (λ f. option_or f None) is) in
-        let among : first_there (take (suc count) (map fault all)) ≡ Some told = ap first_there (take-map fault (suc count) all) ∙ first in
-        let made : first_there (map fault (attempts_made s)) ≡ Some told =
-        sym (ap first_there (take-map fault (tries rounds) all)) ∙ first_there-more (suc count) (tries rounds) (map fault all) told fits among in
+        let among : first_there (take (suc count) (map fault all)) ≡ Some reason = ap first_there (take-map fault (suc count) all) ∙ first in
+        let made : first_there (map fault (attempts_made s)) ≡ Some reason =
+        sym (ap first_there (take-map fault (tries rounds) all)) ∙ first_there-more (suc count) (tries rounds) (map fault all) reason fits among in
         ap (λ f. unless_stopped f (is_used_up rounds) (heads_text (map sent_of (attempts_made s)) (tries rounds))) made
 
     refused_as : count < attempts bag (scripted_rounds s) → (error : SigV4SigningError) → RefusesSigning parts (attempt_bag bag (take count (scripted_rounds s))) s.at error
         → IsRequestError error × HaltsAttempts s (error_ending error)
     refused_as below error refusal =
-        let told = refused_for last error (subst (λ before. RefusesSigning parts (attempt_bag bag before) s.at error) first_rounds refusal) in
-        (told.0, by_halt (error_ending error) told.1)
+        let refuses = refused_for last error (subst (λ before. RefusesSigning parts (attempt_bag bag before) s.at error) first_rounds refusal) in
+        (refuses.0, by_halt (error_ending error) refuses.1)
       where
-        any_rest : (outside other : Option RunFault) (told : RunFault) → option_or outside None ≡ Some told → option_or outside other ≡ Some told
-        any_rest None other told is = cc
-        any_rest (Some fault) other told is = is
+        any_rest : (outside other : Option RunFault) (reason : RunFault) → option_or outside None ≡ Some reason → option_or outside other ≡ Some reason
+        any_rest None other reason is = cc
+        any_rest (Some fault) other reason is = is
 
-        at_first : (before : List Round) → before ≡ [] → (target : TargetRead) → TargetSpells s.request.target target → (told : RunFault) → scripted_fault s target before ≡ Some told
-            → ((t : Target) → target ≡ accepted t → operation_outcome s target ≡ Err (usual (refused told)))
-            → operation_outcome s target ≡ Err (usual (refused told))
-        at_first before none unread spells told is known = ap (λ f. Err (first_attempt_end f)) (ap (scripted_fault s unread) (sym none) ∙ is)
-        at_first before none unaccepted spells told is known = ap (λ f. Err (first_attempt_end f)) (ap (scripted_fault s unaccepted) (sym none) ∙ is)
-        at_first before none (accepted t) spells told is known = known t refl
+        at_first : (before : List Round) → before ≡ [] → (target : TargetRead) → TargetSpells s.request.target target → (reason : RunFault) → scripted_fault s target before ≡ Some reason
+            → ((t : Target) → target ≡ accepted t → operation_outcome s target ≡ Err (usual (refused reason)))
+            → operation_outcome s target ≡ Err (usual (refused reason))
+        at_first before none unread spells reason is known = ap (λ f. Err (first_attempt_end f)) (ap (scripted_fault s unread) (sym none) ∙ is)
+        at_first before none unaccepted spells reason is known = ap (λ f. Err (first_attempt_end f)) (ap (scripted_fault s unaccepted) (sym none) ∙ is)
+        at_first before none (accepted t) spells reason is known = known t refl
 
-        later_on : (t : Target) → TargetSpells s.request.target (accepted t) → (target : TargetRead) → TargetSpells s.request.target target → (told : RunFault) → scripted_fault s target last ≡ Some told
-            → scripted_fault s (accepted t) last ≡ Some told
-        later_on t found unread spells told is = any_rest (outside_years (scripted_moment s last)) (target_fault (scripted_case s last) (accepted t)) told is
-        later_on t found unaccepted spells told is = absurd (reads_one_way s.request.target t spells found)
-        later_on t found (accepted other) spells told is = ap (λ o. scripted_fault s (accepted o) last) (reads_one s.request.target t other found spells) ∙ is
+        later_on : (t : Target) → TargetSpells s.request.target (accepted t) → (target : TargetRead) → TargetSpells s.request.target target → (reason : RunFault) → scripted_fault s target last ≡ Some reason
+            → scripted_fault s (accepted t) last ≡ Some reason
+        later_on t found unread spells reason is = any_rest (outside_years (scripted_moment s last)) (target_fault (scripted_case s last) (accepted t)) reason is
+        later_on t found unaccepted spells reason is = absurd (reads_one_way s.request.target t spells found)
+        later_on t found (accepted other) spells reason is = ap (λ o. scripted_fault s (accepted o) last) (reads_one s.request.target t other found spells) ∙ is
 
-        by_given : (replies : List ReplyTexts) → given ≡ replies → (target : TargetRead) → TargetSpells s.request.target target → (told : RunFault) → scripted_fault s target last ≡ Some told
-            → HaltsAttempts s (refused told)
-        by_given [] none target spells told is =
-            (target, spells, at_first last (ap (map (round_at s.at)) none) target spells told is (by_accepted target spells is))
+        by_given : (replies : List ReplyTexts) → given ≡ replies → (target : TargetRead) → TargetSpells s.request.target target → (reason : RunFault) → scripted_fault s target last ≡ Some reason
+            → HaltsAttempts s (refused reason)
+        by_given [] none target spells reason is =
+            (target, spells, at_first last (ap (map (round_at s.at)) none) target spells reason is (by_accepted target spells is))
           where
-            by_accepted : (target : TargetRead) → TargetSpells s.request.target target → scripted_fault s target last ≡ Some told → (t : Target) → target ≡ accepted t
-                → operation_outcome s target ≡ Err (usual (refused told))
+            by_accepted : (target : TargetRead) → TargetSpells s.request.target target → scripted_fault s target last ≡ Some reason → (t : Target) → target ≡ accepted t
+                → operation_outcome s target ≡ Err (usual (refused reason))
             by_accepted target spells is t same =
-                subst (λ r. operation_outcome s r ≡ Err (usual (refused told))) (sym same)
-                (known_refused below t (subst (TargetSpells s.request.target) same spells) told (subst (λ r. scripted_fault s r last ≡ Some told) same is))
-        by_given (reply ∷ replies) some target spells told is =
+                subst (λ r. operation_outcome s r ≡ Err (usual (refused reason))) (sym same)
+                (known_refused below t (subst (TargetSpells s.request.target) same spells) reason (subst (λ r. scripted_fault s r last ≡ Some reason) same is))
+        by_given (reply ∷ replies) some target spells reason is =
             let long : 1 ≤ length given = (let more : length given ≡ suc (length replies) = ap length some in omega (arith, more)) in
             let found = sent_target given sent were_sent long in
-            (accepted found.0, found.1, known_refused below found.0 found.1 told (later_on found.0 found.1 target spells told is))
+            (accepted found.0, found.1, known_refused below found.0 found.1 reason (later_on found.0 found.1 target spells reason is))
 
         by_halt : (halt : Ending) → Unsigned s.request.target (scripted_moment s last) (scripted_case s last) halt → HaltsAttempts s halt
-        by_halt (refused told) (target, spells, is) = by_given given refl target spells told is
+        by_halt (refused reason) (target, spells, is) = by_given given refl target spells reason is
         by_halt no_memory free = tt
         by_halt other wrong = absurd wrong
 

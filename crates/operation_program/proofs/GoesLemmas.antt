@@ -110,24 +110,24 @@ module _ (gave : List Place → FilesRead → Type 0) (unasked : (places : List 
   -- the input is too large
   pub too_large : (wanted : OperationWanted) (left held : Option (List ℕ)) → IsLongerThan left most_input → GoesFor gave env (Ok wanted) left (usual job_too_large) held held
   unfolding run_outcome
-  too_large wanted left held long = (nothing, λ bytes told. (supplies_nothing wanted (operation_job bytes), by_long bytes (let more : IsLongerThan (Some bytes) most_input = rw told at long in more)))
+  too_large wanted left held long = (nothing, λ bytes shown. (supplies_nothing wanted (operation_job bytes), by_long bytes (let more : IsLongerThan (Some bytes) most_input = rw shown at long in more)))
     where
       by_long : (bytes : List ℕ) → most_input < length bytes → GoesSo (run_outcome env (Ok wanted) bytes nothing) (usual job_too_large) held held
       by_long bytes more = let less : nat_lt most_input (length bytes) ≡ true = grind (arith, nat_tests, more) in rw less (goes_stopped (usual job_too_large) held)
 
   -- the input failed
   pub input_failed : (wanted : OperationWanted) (left held : Option (List ℕ)) → GoesFor gave env (Ok wanted) left (usual read_fault) held held
-  input_failed wanted left held = (nothing, λ bytes told. (supplies_nothing wanted (operation_job bytes), goes_read_fault _ held))
+  input_failed wanted left held = (nothing, λ bytes shown. (supplies_nothing wanted (operation_job bytes), goes_read_fault _ held))
 
   -- memory ran out before the input was read
   pub input_no_memory : (read : Result OperationWanted ℕ) (left held : Option (List ℕ)) → GoesFor gave env read left (usual no_memory) held held
-  input_no_memory (Ok wanted) left held = (nothing, λ bytes told. (supplies_nothing wanted (operation_job bytes), goes_no_memory _ held))
-  input_no_memory (Err place) left held = (nothing, λ bytes told. (tt, goes_no_memory _ held))
+  input_no_memory (Ok wanted) left held = (nothing, λ bytes shown. (supplies_nothing wanted (operation_job bytes), goes_no_memory _ held))
+  input_no_memory (Err place) left held = (nothing, λ bytes shown. (tt, goes_no_memory _ held))
 
   -- a word is bad
   pub bad_word : (read : Result OperationWanted ℕ) (place : ℕ) (left held : Option (List ℕ)) → read ≡ Err place → GoesFor gave env read left (usual (bad_words place)) held held
   unfolding run_outcome
-  bad_word read place left held is = rw is (nothing, λ bytes told. (tt, goes_stopped (usual (bad_words place)) held))
+  bad_word read place left held is = rw is (nothing, λ bytes shown. (tt, goes_stopped (usual (bad_words place)) held))
 
 -- the input was read
 pub input_read : (gave : List Place → FilesRead → Type 0) (env : List (List ℕ × List ℕ)) (wanted : OperationWanted) (left : Option (List ℕ)) (bytes : List ℕ) (answer : OperationEnding) (before now : Option (List ℕ))
@@ -139,8 +139,8 @@ input_read gave env wanted left bytes answer before now all short goes = (goes.g
     own = let less : nat_lt most_input (length bytes) ≡ false = grind (arith, nat_tests, short) in rw less goes.goes
 
     by_left : (left : Option (List ℕ)) → IsAllOf left bytes → (other : List ℕ) → ShowsBytes (Ok wanted) left other → Supplies gave (Ok wanted) other goes.given × GoesSo (run_outcome env (Ok wanted) other goes.given) answer before now
-    by_left None all other told = cc
-    by_left (Some held) all other told = let same : other ≡ bytes = cc in rw same (goes.found, own)
+    by_left None all other shown = cc
+    by_left (Some held) all other shown = let same : other ≡ bytes = cc in rw same (goes.found, own)
 
 -- ## The headline
 
@@ -336,7 +336,7 @@ cut_short (Ok text) transport_fault before now gains = rw gains (prefix_at_start
 cut_short (Ok text) (usual done) before now gains = prefix_from_whole before now text gains
 cut_short (Ok text) (usual output_fault) before now gains = gains
 cut_short (Ok text) (usual no_memory) before now gains = gains
-cut_short (Ok text) (usual (refused told)) before now gains = rw gains (prefix_at_start before text)
+cut_short (Ok text) (usual (refused reason)) before now gains = rw gains (prefix_at_start before text)
 cut_short (Ok text) (usual (bad_words place)) before now gains = rw gains (prefix_at_start before text)
 cut_short (Ok text) (usual job_too_large) before now gains = rw gains (prefix_at_start before text)
 cut_short (Ok text) (usual (bad_job place)) before now gains = rw gains (prefix_at_start before text)
@@ -364,9 +364,9 @@ said_words (Ok wanted) end answer fits (inr is) = rw is tt
 said_words (Err place) end answer fits (inr is) = inr is
 
 -- an answer other than that memory ran out is the end itself
-pub said_is : (end answer told : OperationEnding) → IsSaid end answer → answer ≡ told → (told ≡ usual no_memory → ⊥) → end ≡ told
-said_is end answer told (inl is) reached other = sym is ∙ reached
-said_is end answer told (inr is) reached other = absurd (other (sym reached ∙ is))
+pub said_is : (end answer known : OperationEnding) → IsSaid end answer → answer ≡ known → (known ≡ usual no_memory → ⊥) → end ≡ known
+said_is end answer known (inl is) reached other = sym is ∙ reached
+said_is end answer known (inr is) reached other = absurd (other (sym reached ∙ is))
 
 -- the count of a fault other than want of memory
 pub said_counts : (fault : Ending) → (usual no_memory ≡ usual fault → ⊥) → (end answer : OperationEnding) (before now : ℕ) → CountsFor fault end before now → IsSaid end answer → CountsFor fault answer before now
@@ -461,9 +461,9 @@ pub said_ran : (gave : List Place → FilesRead → Type 0) (env : List (List �
 unfolding run_outcome
 said_ran gave env read left end answer reads_before reads_now out err said goes ended kept named says reads writes = record {
   given = goes.0;
-  headline = λ bytes told is. by_done read bytes (supplied bytes told) (gone bytes told) is;
-  failed = λ bytes told is. by_failed read bytes (supplied bytes told) (gone bytes told) is;
-  complete = λ bytes told target can. by_can read bytes target can (supplied bytes told) (gone bytes told);
+  headline = λ bytes shown is. by_done read bytes (supplied bytes shown) (gone bytes shown) is;
+  failed = λ bytes shown is. by_failed read bytes (supplied bytes shown) (gone bytes shown) is;
+  complete = λ bytes shown target can. by_can read bytes target can (supplied bytes shown) (gone bytes shown);
   ended = said_words read end answer ended said;
   supplied = supplied;
   goes = gone;
@@ -475,10 +475,10 @@ said_ran gave env read left end answer reads_before reads_now out err said goes 
 }
   where
     supplied : (bytes : List ℕ) → ShowsBytes read left bytes → Supplies gave read bytes goes.0
-    supplied bytes told = (goes.1 bytes told).0
+    supplied bytes shown = (goes.1 bytes shown).0
 
     gone : (bytes : List ℕ) → ShowsBytes read left bytes → GoesSo (run_outcome env read bytes goes.0) answer out.held_before out.held_now
-    gone bytes told = said_goes _ end answer out.held_before out.held_now (goes.1 bytes told).1 said
+    gone bytes shown = said_goes _ end answer out.held_before out.held_now (goes.1 bytes shown).1 said
 
     by_done : (asked : Result OperationWanted ℕ) (bytes : List ℕ) → Supplies gave asked bytes goes.0 → GoesSo (run_outcome env asked bytes goes.0) answer out.held_before out.held_now → answer ≡ usual done
         → HasOperated gave env asked bytes goes.0 out.held_before out.held_now

@@ -76,13 +76,13 @@ program_fault s sent NoMemory gives = tt
 program_fault s sent (Agent fault) gives = absurd gives
 program_fault s sent (Id fault) gives = absurd gives
 
--- a fault tells how the program ends
+-- how the program ends for a fault
 pub text_refused : (s : Scripted) (sent : List RequestTexts) (fault : OperationFault) (status : OperationStatus) → GivesOutcome s sent (Err fault) → operation_ending status ≡ attempt_fault_ending fault
     → GivesText s (Err status)
 text_refused s sent (Sign error) status (request, halts) is = by_halt (error_ending error) halts is
   where
     by_halt : (halt : Ending) → HaltsAttempts s halt → operation_ending status ≡ usual halt → GivesText s (Err status)
-    by_halt (refused told) (target, spells, so) is = inl (target, spells, so ∙ ap Err (sym is))
+    by_halt (refused reason) (target, spells, so) is = inl (target, spells, so ∙ ap Err (sym is))
     by_halt no_memory halts is = inr is
     by_halt other halts is = absurd halts
 text_refused s sent TransportFault status (target, spells, so) is = inl (accepted target, spells, so ∙ ap Err (sym is))

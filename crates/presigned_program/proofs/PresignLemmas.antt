@@ -123,9 +123,9 @@ presigned_cut (Ok text) (fails fault) before now goes = absurd goes
 presigned_cut (Err end) answer before now goes = (inr (inr refl), goes.1)
 
 -- what goes as planned goes so once its line was said
-pub said_presigned : (plan : Result (List ℕ) PresignEnding) (answer told : PresignEnding) (before now : Option (List ℕ)) → GoesPresigned plan answer before now → IsSaidOf answer told → GoesPresigned plan told before now
-said_presigned plan answer told before now goes (inl is) = rw is goes
-said_presigned plan answer told before now goes (inr is) = rw is (presigned_cut plan answer before now goes)
+pub said_presigned : (plan : Result (List ℕ) PresignEnding) (answer reported : PresignEnding) (before now : Option (List ℕ)) → GoesPresigned plan answer before now → IsSaidOf answer reported → GoesPresigned plan reported before now
+said_presigned plan answer reported before now goes (inl is) = rw is goes
+said_presigned plan answer reported before now goes (inr is) = rw is (presigned_cut plan answer before now goes)
 
 -- what an answer as planned keeps
 pub kept_presigned : (plan : Result (List ℕ) PresignEnding) (answer : PresignEnding) (before now : Option (List ℕ)) → GoesPresigned plan answer before now → KeepsPresigned answer before now
@@ -357,8 +357,8 @@ module _ (gave : List Place → FilesRead → Type 0) (clock : List Instant → 
       → ((path : List ℕ) → answer ≡ ends (could_not_read_file path) → gave wanted.profile.files (unreadable path)) → RanCheck gave clock env wanted left answer before now
   ran_as given answer before now plans moments needed ended named = record {
     given = given;
-    headline = λ bytes told is. has_accepted gave env wanted bytes given before now (rw is at (plans bytes told));
-    complete = λ bytes told at is input. completes_check gave env wanted bytes given answer before now (plans bytes told) at is input;
+    headline = λ bytes known is. has_accepted gave env wanted bytes given before now (rw is at (plans bytes known));
+    complete = λ bytes known at is input. completes_check gave env wanted bytes given answer before now (plans bytes known) at is input;
     planned = plans;
     moments = moments;
     needed = needed;
@@ -370,15 +370,15 @@ module _ (gave : List Place → FilesRead → Type 0) (clock : List Instant → 
   pub read_ran : (read : List ℕ) (answer : PresignEnding) (before now : Option (List ℕ)) → IsAllOf left read → length read ≤ most_input → IsAfterRead answer
       → HasChecked gave clock env wanted (request_job read) answer before now → RanCheck gave clock env wanted left answer before now
   read_ran read answer before now all short after has =
-      ran_as has.given answer before now (λ bytes told. rw (← all_read left read bytes all told) plans) has.moments has.needed (read_of_words answer after) has.named
+      ran_as has.given answer before now (λ bytes known. rw (← all_read left read bytes all known) plans) has.moments has.needed (read_of_words answer after) has.named
     where
       plans : PlansPresigned gave env wanted read has.given answer before now
       plans = record { supplied = has.supplied; goes = rw (plan_of_short env wanted read has.given short) has.goes }
 
   -- what a run goes as whose line was said
-  pub said_ran : (answer told : PresignEnding) (before now : Option (List ℕ)) → RanCheck gave clock env wanted left answer before now → IsSaidOf answer told → RanCheck gave clock env wanted left told before now
-  said_ran answer told before now ran (inl is) = rw is ran
-  said_ran answer told before now ran (inr is) =
+  pub said_ran : (answer reported : PresignEnding) (before now : Option (List ℕ)) → RanCheck gave clock env wanted left answer before now → IsSaidOf answer reported → RanCheck gave clock env wanted left reported before now
+  said_ran answer reported before now ran (inl is) = rw is ran
+  said_ran answer reported before now ran (inr is) =
       rw is
       (ran_as ran.given (ends no_memory) before now
       (λ bytes known. record { supplied = (ran.planned bytes known).supplied; goes = presigned_cut (input_check_plan env wanted bytes ran.given) answer before now (ran.planned bytes known).goes })
@@ -418,22 +418,22 @@ module _ (gave : List Place → FilesRead → Type 0) (free : (places : List Pla
   nothing_ran : (left : Option (List ℕ)) (answer : PresignEnding) (held : Option (List ℕ)) → ((bytes : List ℕ) → left ≡ Some bytes → GoesPresigned (input_check_plan env wanted bytes nothing_supplied) answer held held)
       → IsOfWords answer → ((path : List ℕ) → answer ≡ ends (could_not_read_file path) → ⊥) → RanCheck gave clock env wanted left answer held held
   nothing_ran left answer held goes ended unnamed =
-      ran_as gave clock env wanted left nothing_supplied answer held held (λ bytes told. record { supplied = nothing_given (request_job bytes); goes = goes bytes told }) unasked
+      ran_as gave clock env wanted left nothing_supplied answer held held (λ bytes known. record { supplied = nothing_given (request_job bytes); goes = goes bytes known }) unasked
       (needs_none answer) ended (λ path is. absurd (unnamed path is))
 
   pub no_memory_ran : (left : Option (List ℕ)) (held : Option (List ℕ)) → RanCheck gave clock env wanted left (ends no_memory) held held
-  no_memory_ran left held = nothing_ran left (ends no_memory) held (λ bytes told. presigned_no_memory (input_check_plan env wanted bytes nothing_supplied) held) tt (λ path is. cc)
+  no_memory_ran left held = nothing_ran left (ends no_memory) held (λ bytes known. presigned_no_memory (input_check_plan env wanted bytes nothing_supplied) held) tt (λ path is. cc)
 
   pub read_fault_ran : (left : Option (List ℕ)) (held : Option (List ℕ)) → RanCheck gave clock env wanted left (ends read_fault) held held
-  read_fault_ran left held = nothing_ran left (ends read_fault) held (λ bytes told. presigned_read_fault (input_check_plan env wanted bytes nothing_supplied) held) tt (λ path is. cc)
+  read_fault_ran left held = nothing_ran left (ends read_fault) held (λ bytes known. presigned_read_fault (input_check_plan env wanted bytes nothing_supplied) held) tt (λ path is. cc)
 
   pub too_large_ran : (left : Option (List ℕ)) (held : Option (List ℕ)) → IsLongerThan left most_input → RanCheck gave clock env wanted left (ends job_too_large) held held
-  too_large_ran left held long = nothing_ran left (ends job_too_large) held (λ bytes told. by_left left bytes long told) tt (λ path is. cc)
+  too_large_ran left held long = nothing_ran left (ends job_too_large) held (λ bytes known. by_left left bytes long known) tt (λ path is. cc)
     where
       by_left : (left : Option (List ℕ)) (bytes : List ℕ) → IsLongerThan left most_input → left ≡ Some bytes → GoesPresigned (input_check_plan env wanted bytes nothing_supplied) (ends job_too_large) held held
-      by_left None bytes long told = cc
-      by_left (Some all) bytes long told =
-          let same : all ≡ bytes = (let e : Some all ≡ Some bytes = told in cc) in
+      by_left None bytes long known = cc
+      by_left (Some all) bytes long known =
+          let same : all ≡ bytes = (let e : Some all ≡ Some bytes = known in cc) in
           rw (plan_of_large env wanted bytes nothing_supplied (rw same at long)) (inl refl, refl)
 
 -- the words that are read, or the first bad one, where memory ran out
@@ -471,36 +471,36 @@ module _ (gave : List Place → FilesRead → Type 0) (clock : List Instant → 
     goes = rw is (inl refl, refl);
     moments = unasked;
     needed = needs_none (ends end);
-    named = λ path told. named path (cc);
+    named = λ path reached. named path (cc);
   }
 
 -- ## The line
 
-pub said_words : (gave : List Place → FilesRead → Type 0) (clock : List Instant → Type 0) (env : List (List ℕ × List ℕ)) (read : Result RequestWanted ℕ) (left : Option (List ℕ)) (answer told : PresignEnding) (before now : Option (List ℕ))
-    → RanWords gave clock env read left answer before now → IsSaidOf answer told → RanWords gave clock env read left told before now
-said_words gave clock env (Ok wanted) left answer told before now ran said = said_ran gave clock env wanted left answer told before now ran said
-said_words gave clock env (Err place) left answer told before now ran (inl is) = rw is ran
-said_words gave clock env (Err place) left answer told before now ran (inr is) = rw is (inr refl, ran.1)
+pub said_words : (gave : List Place → FilesRead → Type 0) (clock : List Instant → Type 0) (env : List (List ℕ × List ℕ)) (read : Result RequestWanted ℕ) (left : Option (List ℕ)) (answer reported : PresignEnding) (before now : Option (List ℕ))
+    → RanWords gave clock env read left answer before now → IsSaidOf answer reported → RanWords gave clock env read left reported before now
+said_words gave clock env (Ok wanted) left answer reported before now ran said = said_ran gave clock env wanted left answer reported before now ran said
+said_words gave clock env (Err place) left answer reported before now ran (inl is) = rw is ran
+said_words gave clock env (Err place) left answer reported before now ran (inr is) = rw is (inr refl, ran.1)
 
-pub said_kept : (answer told : PresignEnding) (before now : Option (List ℕ)) → KeepsPresigned answer before now → IsSaidOf answer told → KeepsPresigned told before now
-said_kept answer told before now kept (inl is) = rw is kept
-said_kept answer told before now kept (inr is) = rw is tt
+pub said_kept : (answer reported : PresignEnding) (before now : Option (List ℕ)) → KeepsPresigned answer before now → IsSaidOf answer reported → KeepsPresigned reported before now
+said_kept answer reported before now kept (inl is) = rw is kept
+said_kept answer reported before now kept (inr is) = rw is tt
 
-pub said_input : (answer told : PresignEnding) (before now : ℕ) → CountsInput answer before now → before ≤ now → IsSaidOf answer told → CountsInput told before now
-said_input answer told before now counts grew (inl is) = rw is counts
-said_input answer told before now counts grew (inr is) = rw is grew
+pub said_input : (answer reported : PresignEnding) (before now : ℕ) → CountsInput answer before now → before ≤ now → IsSaidOf answer reported → CountsInput reported before now
+said_input answer reported before now counts grew (inl is) = rw is counts
+said_input answer reported before now counts grew (inr is) = rw is grew
 
-pub said_output : (answer told : PresignEnding) (before now : ℕ) → CountsOutput answer before now → before ≤ now → IsSaidOf answer told → CountsOutput told before now
-said_output answer told before now counts grew (inl is) = rw is counts
-said_output answer told before now counts grew (inr is) = rw is grew
+pub said_output : (answer reported : PresignEnding) (before now : ℕ) → CountsOutput answer before now → before ≤ now → IsSaidOf answer reported → CountsOutput reported before now
+said_output answer reported before now counts grew (inl is) = rw is counts
+said_output answer reported before now counts grew (inr is) = rw is grew
 
-pub said_disk_at : {D : Type 0} (answer told : PresignEnding) (before now : D) → KeepsDiskAt answer before now → IsSaidOf answer told → KeepsDiskAt told before now
-said_disk_at answer told before now kept (inl is) = rw is kept
-said_disk_at answer told before now kept (inr is) = rw is tt
+pub said_disk_at : {D : Type 0} (answer reported : PresignEnding) (before now : D) → KeepsDiskAt answer before now → IsSaidOf answer reported → KeepsDiskAt reported before now
+said_disk_at answer reported before now kept (inl is) = rw is kept
+said_disk_at answer reported before now kept (inr is) = rw is tt
 
-pub said_done : (answer told : PresignEnding) (P : Type 0) → (answer ≡ ends done → P) → IsSaidOf answer told → told ≡ ends done → P
-said_done answer told P holds (inl is) reached = holds (sym is ∙ reached)
-said_done answer told P holds (inr is) reached = cc
+pub said_done : (answer reported : PresignEnding) (P : Type 0) → (answer ≡ ends done → P) → IsSaidOf answer reported → reported ≡ ends done → P
+said_done answer reported P holds (inl is) reached = holds (sym is ∙ reached)
+said_done answer reported P holds (inr is) reached = cc
 
 -- what holds, holds where a word is bad
 pub holds_unless_words : (read : Result RequestWanted ℕ) (P : Type 0) → P → UnlessWords read P

@@ -15,7 +15,7 @@ returns-in-Ok-clause-gives c = λ texts.
     let sent = c.operate_selected.new.script.sent in
     let alike : c.new-script.result.replies ≡ map listed_reply (map reply_parts a.lines.now) = c.new-script.ensures.replies ∙ c.in_ok-replies_of.ensures in
     let gives : GivesOutcome (scripted_over a.env.now a.request.now texts (selected_in a.settings) a.name.now a.at c.new-script.result.replies) sent (Ok c.in-Ok.outcome) = c.in-Ok.ensures texts in
-    let same : map request_texts c.sent.result.now ≡ sent = (let told = c.sent.ensures in cc) in
+    let same : map request_texts c.sent.result.now ≡ sent = (let seen = c.sent.ensures in cc) in
     text_made (scripted_over a.env.now a.request.now texts (selected_in a.settings) a.name.now a.at (map listed_reply (map reply_parts a.lines.now))) sent c.in-Ok.outcome c.in_ok-heads_of-in-Ok.field-0
     (subst (λ replies. GivesOutcome (scripted_over a.env.now a.request.now texts (selected_in a.settings) a.name.now a.at replies) sent (Ok c.in-Ok.outcome)) alike gives)
     (subst (λ requests. c.in_ok-heads_of-in-Ok.field-0.items ≡ heads_text requests c.in-Ok.outcome.attempts) same c.in_ok-heads_of-in-Ok.ensures)

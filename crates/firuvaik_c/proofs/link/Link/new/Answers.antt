@@ -11,9 +11,9 @@ returns c =
     let texts = c.in_ok-texts.ensures in
     let fits : SFits w64 c.args.seconds = search rules in
     let when = c.new-at.ensures ∙ ap moment_at (to_z-of_z w64 c.args.seconds fits) in
-    let before = c.in_ok-before.ensures.1 ∙ c.as_slice.ensures in
-    let code = rw c.as_slice.ensures at c.in_ok-before.ensures.0 in
+    let previous_signature = c.in_ok-previous_signature.ensures.1 ∙ c.as_slice.ensures in
+    let code = rw c.as_slice.ensures at c.in_ok-previous_signature.ensures.0 in
     let years = rw when at c.in_ok-test_years.ensures in (
-      link_able c.args.signer.now c.args.seconds c.args.before.now texts.texts code years,
-      link_same c.args.signer.now c.args.seconds c.args.before.now _ _ _ _ _ (c.in_ok-identity.ensures.1 ∙ texts.secret) texts.region texts.service when before,
+      link_able c.args.signer.now c.args.seconds c.args.previous_signature.now texts.texts code years,
+      link_same c.args.signer.now c.args.seconds c.args.previous_signature.now _ _ _ _ _ (c.in_ok-identity.ensures.1 ∙ texts.secret) texts.region texts.service when previous_signature,
     )
