@@ -237,9 +237,9 @@ module _ (form : Form) where
           → EndsEarly fault (unless_refused fault (link_text form signer signature (frame event) at)) b c early → EndsEarly (refusal_fault whole) text a c early
       by_fault fault output_fault is sends = cut fault is sends
       by_fault fault no_memory is sends = cut fault is sends
-      by_fault None (refused told) is sends = let wrong : None ≡ Some told = sends.0 in cc
-      by_fault (Some fault) (refused told) is sends =
-          let same : Some fault ≡ Some told = sends.0 in (
+      by_fault None (refused reason) is sends = let wrong : None ≡ Some reason = sends.0 in cc
+      by_fault (Some fault) (refused reason) is sends =
+          let same : Some fault ≡ Some reason = sends.0 in (
             rw (← decided, unlinked_refusal signer place event events at moments signature fault is) same,
             gains_last a b c [] text (none_left fault is) sends.1,
           )
@@ -270,11 +270,11 @@ module _ (form : Form) where
       none_left fault is = rw (refused_text signer place [] (at ∷ []) signature fault (rw is refl)) at first
 
       by_fault : (fault : Option RunFault) → outside_years at ≡ fault → (early : Ending) → EndsEarly fault (unless_refused fault (link_text form signer signature [] at)) b c early → EndsEarly (refusal_fault whole) text a c early
-      by_fault None is (refused told) sends = let wrong : None ≡ Some told = sends.0 in cc
+      by_fault None is (refused reason) sends = let wrong : None ≡ Some reason = sends.0 in cc
       by_fault None is output_fault sends = prefix_join a b c (link_text form signer signature [] at) text (whole_left is) sends
       by_fault None is no_memory sends = prefix_join a b c (link_text form signer signature [] at) text (whole_left is) sends
-      by_fault (Some fault) is (refused told) sends =
-          let same : Some fault ≡ Some told = sends.0 in (rw (← decided, is) same, gains_last a b c [] text (none_left fault is) sends.1)
+      by_fault (Some fault) is (refused reason) sends =
+          let same : Some fault ≡ Some reason = sends.0 in (rw (← decided, is) same, gains_last a b c [] text (none_left fault is) sends.1)
       by_fault (Some fault) is output_fault sends = prefix_join a b c [] text (none_left fault is) sends
       by_fault (Some fault) is no_memory sends = prefix_join a b c [] text (none_left fault is) sends
       by_fault fault is other sends = absurd sends

@@ -54,9 +54,9 @@ module _ (request : HttpRequest) (name : List ℕ) (selected : Selected) (chain 
   checks_no_memory status is = (unsought, tt, ap stops (sym is))
 
   -- the frames aren't the chain over its signature
-  pub checks_unchained : (seal : SealParts) (told : ChainFault) (status : Status) → IsSealed request selected.region name seal
-      → AnswersChain (chain_events (record { secret = selected.secret; region = selected.region; name = name }) seal.signature chain) (Err told)
-      → ending_of status ≡ chain_ending told → ChecksRecord request name selected chain (Err status)
+  pub checks_unchained : (seal : SealParts) (fault : ChainFault) (status : Status) → IsSealed request selected.region name seal
+      → AnswersChain (chain_events (record { secret = selected.secret; region = selected.region; name = name }) seal.signature chain) (Err fault)
+      → ending_of status ≡ chain_ending fault → ChecksRecord request name selected chain (Err status)
   checks_unchained seal chains.NoMemory status sealed answers is = checks_no_memory status is
   checks_unchained seal (chains.NotChain place part) status sealed (inl failed) is =
       (sealed_over seal.signature, seal_carried request selected.region name seal sealed, ap checked_plan failed ∙ ap stops (sym is))
@@ -76,8 +76,8 @@ module _ (request : HttpRequest) (name : List ℕ) (selected : Selected) (chain 
   -- the events that pass are written
   pub events_go : {T : Type 0} (events : Vec Parts) (answer : Result T StreamFault) (before now : Option (List ℕ)) → ChecksRecord request name selected chain (Ok events)
       → Sends None (shown_events events.items) before now answer → GoesForSeal request name selected chain (ended answer) before now
-  events_go events answer before now told sends =
-      (sealed_over told.0, told.1, subst (λ plan. GoesAsPlanned plan (ended answer) before now) (sym (ap checked_plan told.2)) (text_goes (shown_events events.items) before now answer sends))
+  events_go events answer before now checked sends =
+      (sealed_over checked.0, checked.1, subst (λ plan. GoesAsPlanned plan (ended answer) before now) (sym (ap checked_plan checked.2)) (text_goes (shown_events events.items) before now answer sends))
 
 -- ## What is written
 

@@ -52,7 +52,7 @@ module _ (before mid now : Option (List ℕ)) (bytes rest text : List ℕ) where
       gains_join before mid now rest (bytes ++ rest) text (subst (λ (l : List ℕ). GainsRest before mid l text) is so_far) (gains_front mid now bytes rest gained)
 
   ends_early_within : (left : List ℕ) (early : Ending) → left ≡ bytes ++ rest → GainsRest before mid left text → EndsEarly None bytes mid now early → EndsEarly None text before now early
-  ends_early_within left (refused told) is so_far ends_early = absurd (let no : None ≡ Some told = ends_early.0 in cc)
+  ends_early_within left (refused reason) is so_far ends_early = absurd (let no : None ≡ Some reason = ends_early.0 in cc)
   ends_early_within left output_fault is so_far ends_early =
       prefix_join before mid now (bytes ++ rest) text (subst (λ (l : List ℕ). GainsRest before mid l text) is so_far) (prefix_within mid now bytes rest ends_early)
   ends_early_within left no_memory is so_far ends_early =
@@ -60,6 +60,6 @@ module _ (before mid now : Option (List ℕ)) (bytes rest text : List ℕ) where
   ends_early_within left other is so_far ends_early = absurd ends_early
 
   -- they aren't
-  pub bytes_ended_early : (T U : Type 0) (left : List ℕ) (told : StreamFault) → left ≡ bytes ++ rest → GainsRest before mid left text
-      → Sends {T = T} None bytes mid now (Err told) → Sends {T = U} None text before now (Err told)
-  bytes_ended_early T U left told is so_far sends = ends_early_within left (stream_ending told) is so_far sends
+  pub bytes_ended_early : (T U : Type 0) (left : List ℕ) (reason : StreamFault) → left ≡ bytes ++ rest → GainsRest before mid left text
+      → Sends {T = T} None bytes mid now (Err reason) → Sends {T = U} None text before now (Err reason)
+  bytes_ended_early T U left reason is so_far sends = ends_early_within left (stream_ending reason) is so_far sends

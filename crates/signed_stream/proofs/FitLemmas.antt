@@ -1,22 +1,22 @@
 -- How a job and profile texts go as planned.
-use Rattle.std.proofs.Common.{◌≡◌, ℕ, List, [], ◌∷◌, length, replicate, Option, Some, None, refl, sym, ap, ◌∙◌, subst}
+use Rattle.std.proofs.Common.{◌≡◌, ℕ, ◌≤◌, List, [], ◌∷◌, length, replicate, Option, Some, None, refl, sym, ap, ◌∙◌, subst}
 use Rattle.std.specs.Prelude.{Result, Ok, Err, IsErrOf}
 use Rattle.smithy_core.specs.Clock.{ClockState, GivesNext}
-use Rattle.smithy_core.specs.Given.{Gives}
+use Rattle.smithy_core.specs.Given.{Gives, GivesEach}
 use Rattle.smithy_core.specs.Moment.{Instant}
 use Rattle.smithy_core.specs.declared.outside.clock.Clock as Clock
-use Rattle.smithy_core.proofs.GivenLemmas.{given_last}
+use Rattle.smithy_core.specs.declared.outside.disk.Disk as Disk
+use Rattle.smithy_core.proofs.GivenLemmas.{each_given, given_last}
 use Rattle.smithy_core.specs.Outside.{CountsFault}
 use Rattle.env_config.specs.Files.{Place}
-use Rattle.env_config.specs.Loading.{selected_profile}
-use Rattle.env_config.specs.Sections.{FileText}
 use Rattle.signed_stream.specs.Carriers.{GoesForJob, GoesForRecord, GoesForTexts, IsAfterTexts}
 use Rattle.signed_stream.specs.CheckRecord.{CarriesSeal, check_signer, sealed_plan}
 use Rattle.signed_stream.specs.Command.{CheckWanted, Wanted}
+use Rattle.signed_stream.specs.Effects.{ReadsAndWrites}
 use Rattle.signed_stream.specs.Sending.{Sends}
 use Rattle.job_text.specs.Job.{JobParts}
 use Rattle.signed_stream.specs.Options.{IsOptionsOf, wanted_of}
-use Rattle.signed_stream.specs.Plan.{FilesRead, GoesAsPlanned, Plan, SealRead, Supplied, TargetRead, loaded, plan_end, unread, unsought}
+use Rattle.signed_stream.specs.Plan.{FilesRead, GoesAsPlanned, Plan, SealRead, Supplied, TargetRead, plan_end, unread, unsought}
 use Rattle.signed_stream.specs.ProfileOptions.{ProfileWanted}
 use Rattle.job_text.specs.ProfileTexts.{ProfileTexts}
 use Rattle.job_text.specs.Record.{RecordParts}
@@ -25,8 +25,8 @@ use Rattle.signed_stream.specs.Settings.{Selected}
 use Rattle.signed_stream.specs.Shown.{shown_settings}
 use Rattle.signed_stream.specs.Sources.{selection, source_places}
 use Rattle.signed_stream.specs.Status.{Ending, could_not_read_file, output_fault, ended}
-use Rattle.signed_stream.specs.Stream.{job_texts}
-use Rattle.signed_stream.specs.Streaming.{Streams, TakesFor, stream_plan, stream_wanted}
+use Rattle.signed_stream.specs.Stream.{job_texts, selected_plan}
+use Rattle.signed_stream.specs.Streaming.{Streams, TakesFor, stream_wanted}
 use Rattle.signed_stream.specs.declared.command.stream.StreamWords.{StreamWords}
 use Rattle.signed_stream.specs.declared.status.StreamFault.{StreamFault}
 use Rattle.signed_stream.specs.declared.status.StreamFault.TheVariants as faults
@@ -64,16 +64,27 @@ pub ended_unnamed : {T : Type 0} (answer : Result T StreamFault) (path : List �
 ended_unnamed (Err faults.SinkFault) path is = cc
 ended_unnamed other path is = cc
 
+-- so a run that ends as a stream does names no file, and writes as the stream does
+pub ended_writes : {D T : Type 0} (disk : Disk.Ghosts D) (names : List ℕ → Type 0) (answer : Result T StreamFault) (end : Ending) (before now : D) (faults_before faults_now : ℕ) → end ≡ ended answer
+    → CountsFault (IsErrOf answer faults.SinkFault) faults_before faults_now → disk.files now ≡ disk.files before → disk.faults before ≤ disk.faults now
+    → ReadsAndWrites names end disk before now faults_before faults_now
+ended_writes disk names answer end before now faults_before faults_now is counts same grew = record {
+  named = λ path ends. absurd (ended_unnamed answer path (sym is ∙ ends));
+  same = same;
+  writes = ended_counts answer end faults_before faults_now is counts;
+  count = grew;
+}
+
 -- ## The moments
 
 -- the moments that were gained were taken
-pub streams_take : (taken : List Instant → Type 0) (old new : List Instant) (text : List ℕ) (plan : TargetRead → List Instant → Plan) (answer : Ending) (before now : Option (List ℕ))
-    → Streams taken old new text plan answer before now → TakesFor taken text plan answer before now
-streams_take taken old new text plan answer before now streams = record {
+pub streams_take : {C : Type 0} (clock : Clock.Ghosts C) (start end : C) (old new : List Instant) (text : List ℕ) (plan : TargetRead → List Instant → Plan) (answer : Ending) (before now : Option (List ℕ))
+    → Streams (λ taken. GivesEach clock start taken end) old new text plan answer before now → TakesFor (λ taken. Gives clock start taken end) text plan answer before now
+streams_take clock start end old new text plan answer before now streams = record {
   target = streams.target;
   moments = streams.taken;
   spelled = streams.spelled;
-  given = streams.given;
+  given = each_given clock start end streams.taken streams.given;
   goes = streams.goes;
   needed = streams.needed;
 }
@@ -83,11 +94,11 @@ pub fixed_takes : (fixed : Clock.Ghosts ClockState) → ((before : ClockState) (
     → (clock : List Instant → Type 0) → clock [] → (start end : ClockState) (at : Instant) → start ≡ record { moments = []; last = at; calls = 0 }
     → (text : List ℕ) (plan : TargetRead → List Instant → Plan) (answer : Ending) (before now : Option (List ℕ))
     → TakesFor (λ moments. Gives fixed start moments end) text plan answer before now → TakesFor (OfClock clock (Some at)) text plan answer before now
-fixed_takes fixed told clock unasked start end at is text plan answer before now takes = record {
+fixed_takes fixed gives clock unasked start end at is text plan answer before now takes = record {
   target = takes.target;
   moments = takes.moments;
   spelled = takes.spelled;
-  given = (given_last fixed told start end takes.moments none takes.given.0 ∙ ap (λ (t : Instant). replicate (length takes.moments) t) last, unasked);
+  given = (given_last fixed gives start end takes.moments none takes.given.0 ∙ ap (λ (t : Instant). replicate (length takes.moments) t) last, unasked);
   goes = takes.goes;
   needed = takes.needed;
 }
@@ -101,55 +112,50 @@ fixed_takes fixed told clock unasked start end at is text plan answer before now
 -- ## The job
 
 -- what the words ask of a stream is planned alike
-plan_of_words : (files : List FileText) (profile : List ℕ) (env : List (List ℕ × List ℕ)) (words : StreamWords) (options : StreamOptions) (j : JobParts) → IsOptionsOf words options
-    → (target : TargetRead) (moments : List Instant)
-    → stream_plan files profile env (stream_wanted options words.form) j target moments ≡ stream_plan files profile env (wanted_of words) j target moments
-plan_of_words files profile env words options j of target [] = rw of.service_id refl
-plan_of_words files profile env words options j of target (first ∷ others) = rw (of.name, of.service_id, of.signing, of.token_name, of.skew_millis) refl
+plan_of_words : (words : StreamWords) (options : StreamOptions) (j : JobParts) (selected : Selected) → IsOptionsOf words options → (target : TargetRead) (moments : List Instant)
+    → selected_plan j (stream_wanted options words.form) target moments selected ≡ selected_plan j (wanted_of words) target moments selected
+plan_of_words words options j selected of target [] = refl
+plan_of_words words options j selected of target (first ∷ others) = rw (of.name, of.signing, of.token_name, of.skew_millis) refl
 
 -- a stream by options goes as the words ask
-pub words_go : (taken : List Instant → Type 0) (text : List ℕ) (files : List FileText) (profile : List ℕ) (env : List (List ℕ × List ℕ)) (words : StreamWords) (options : StreamOptions) (j : JobParts)
-    (answer : Ending) (before now : Option (List ℕ)) → IsOptionsOf words options
-    → TakesFor taken text (stream_plan files profile env (stream_wanted options words.form) j) answer before now
-    → TakesFor taken text (stream_plan files profile env (wanted_of words) j) answer before now
-words_go taken text files profile env words options j answer before now of goes = record {
+pub words_go : (taken : List Instant → Type 0) (text : List ℕ) (words : StreamWords) (options : StreamOptions) (j : JobParts) (selected : Selected) (answer : Ending) (before now : Option (List ℕ))
+    → IsOptionsOf words options → TakesFor taken text (λ target moments. selected_plan j (stream_wanted options words.form) target moments selected) answer before now
+    → TakesFor taken text (λ target moments. selected_plan j (wanted_of words) target moments selected) answer before now
+words_go taken text words options j selected answer before now of goes = record {
   target = goes.target;
   moments = goes.moments;
   spelled = goes.spelled;
   given = goes.given;
-  goes = subst (λ plan. GoesAsPlanned plan answer before now) (plan_of_words files profile env words options j of goes.target goes.moments) goes.goes;
+  goes = subst (λ plan. GoesAsPlanned plan answer before now) (plan_of_words words options j selected of goes.target goes.moments) goes.goes;
   needed = λ front t rest is. sym (same front) ∙ goes.needed front t rest is;
 }
   where
-    same : (front : List Instant) → plan_end (stream_plan files profile env (stream_wanted options words.form) j goes.target front) ≡ plan_end (stream_plan files profile env (wanted_of words) j goes.target front)
-    same front = rw (plan_of_words files profile env words options j of goes.target front) refl
+    same : (front : List Instant) → plan_end (selected_plan j (stream_wanted options words.form) goes.target front selected) ≡ plan_end (selected_plan j (wanted_of words) goes.target front selected)
+    same front = rw (plan_of_words words options j selected of goes.target front) refl
 
 module _ (gave : List Place → FilesRead → Type 0) (clock : List Instant → Type 0) (env : List (List ℕ × List ℕ)) (wanted : Wanted) where
-  -- a job whose files are there, without its texts
-  plan_of_job : (texts : List FileText) (j k : JobParts) (target : TargetRead) (moments : List Instant)
-      → record j { config = None; credentials = None } ≡ record k { config = None; credentials = None }
-      → stream_plan texts (selected_profile env) env wanted k target moments ≡ stream_plan texts (selected_profile env) env wanted j target moments
-  plan_of_job texts j k target [] same = refl
-  plan_of_job texts j k target (first ∷ others) same = subst (λ parts. stream_plan texts (selected_profile env) env wanted parts target (first ∷ others) ≡ stream_plan texts (selected_profile env) env wanted j target (first ∷ others)) same refl
+  -- a job without its texts is planned alike
+  plan_of_job : (j k : JobParts) (selected : Selected) (target : TargetRead) (moments : List Instant) → record j { config = None; credentials = None } ≡ record k { config = None; credentials = None }
+      → selected_plan k wanted target moments selected ≡ selected_plan j wanted target moments selected
+  plan_of_job j k selected target [] same = refl
+  plan_of_job j k selected target (first ∷ others) same =
+      subst (λ parts. selected_plan parts wanted target (first ∷ others) selected ≡ selected_plan j wanted target (first ∷ others) selected) same refl
 
-  -- it goes as planned
-  pub job_goes : (j k : JobParts) (texts : List FileText) (profile : List ℕ) (answer : Ending) (before now : Option (List ℕ))
-      → record j { config = None; credentials = None } ≡ record k { config = None; credentials = None } → profile ≡ selected_profile env
-      → gave (source_places wanted.profile.files (job_texts j)) (loaded texts)
-      → TakesFor (OfClock clock wanted.at) j.target (stream_plan texts profile env wanted k) answer before now → GoesForJob gave clock env wanted j answer before now
-  job_goes j k texts profile answer before now same is loads goes = record {
-    given = record { files = loaded texts; moments = goes.moments; target = goes.target; seal = unsought };
+  -- it goes as planned for what is selected
+  pub job_goes : (j k : JobParts) (files : FilesRead) (selected : Selected) (answer : Ending) (before now : Option (List ℕ))
+      → record j { config = None; credentials = None } ≡ record k { config = None; credentials = None } → gave (source_places wanted.profile.files (job_texts j)) files
+      → selection env wanted.profile.service_id files ≡ Ok selected → TakesFor (OfClock clock wanted.at) j.target (λ target moments. selected_plan k wanted target moments selected) answer before now
+      → GoesForJob gave clock env wanted j answer before now
+  job_goes j k files selected answer before now same loads selects goes = record {
+    given = record { files = files; moments = goes.moments; target = goes.target; seal = unsought };
     found = record { files = loads; target = goes.spelled };
     moments = goes.given;
-    goes = subst (λ plan. GoesAsPlanned plan answer before now) (plans goes.moments) goes.goes;
-    needed = λ front t rest cut. sym (ends front) ∙ goes.needed front t rest cut;
+    goes = rw selects (subst (λ plan. GoesAsPlanned plan answer before now) (plan_of_job j k selected goes.target goes.moments same) goes.goes);
+    needed = λ front t rest cut. rw selects (sym (ends front) ∙ goes.needed front t rest cut);
   }
     where
-      plans : (moments : List Instant) → stream_plan texts profile env wanted k goes.target moments ≡ stream_plan texts (selected_profile env) env wanted j goes.target moments
-      plans moments = rw is (plan_of_job texts j k goes.target moments same)
-
-      ends : (front : List Instant) → plan_end (stream_plan texts profile env wanted k goes.target front) ≡ plan_end (stream_plan texts (selected_profile env) env wanted j goes.target front)
-      ends front = rw (plans front) refl
+      ends : (front : List Instant) → plan_end (selected_plan k wanted goes.target front selected) ≡ plan_end (selected_plan j wanted goes.target front selected)
+      ends front = rw (plan_of_job j k selected goes.target front same) refl
 
   -- a job for which nothing is selected
   pub job_unselected : (j : JobParts) (files : FilesRead) (end : Ending) (held : Option (List ℕ)) → OfClock clock wanted.at []

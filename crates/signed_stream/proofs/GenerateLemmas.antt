@@ -252,8 +252,8 @@ streaming_done events moments held drawn same sends =
 pub moments_same : (fixed : Clock.Ghosts ClockState) → ((before : ClockState) (moment : Instant) (now : ClockState) → fixed.answers before moment now → GivesNext before moment now)
     → (start end : ClockState) (moments : List Instant) → start ≡ record { moments = []; last = generated_moment; calls = 0 } → GivesEach fixed start moments end
     → moments ≡ replicate (length moments) generated_moment
-moments_same fixed told start end moments is given =
-    given_last fixed told start end moments (ap (λ (c : ClockState). c.moments) is) given
+moments_same fixed gives start end moments is given =
+    given_last fixed gives start end moments (ap (λ (c : ClockState). c.moments) is) given
     ∙ ap (λ (t : Instant). replicate (length moments) t) (ap (λ (c : ClockState). c.last) is)
 
 -- what seals for the request seals for the generated signer
@@ -306,10 +306,10 @@ check_passes seed bytes events drawn is same =
         (drawn_chained generated_signer drawn.0 drawn.1 (signature_of generated_case)))
 
 -- so a fault of it only wants memory
-pub check_wants : (seed bytes : List ℕ) (events : List Parts) (told : ChainFault) → AreDrawn events → seed ≡ signature_of generated_case → bytes ≡ generated_stream events
-    → (chain_events generated_signer seed bytes ≡ Err told) ⊎ (told ≡ chains.NoMemory) → told ≡ chains.NoMemory
-check_wants seed bytes events told drawn is same (inl refused) = let wrong : Ok (map floored_message events) ≡ Err told = sym (check_passes seed bytes events drawn is same) ∙ refused in cc
-check_wants seed bytes events told drawn is same (inr none) = none
+pub check_wants : (seed bytes : List ℕ) (events : List Parts) (fault : ChainFault) → AreDrawn events → seed ≡ signature_of generated_case → bytes ≡ generated_stream events
+    → (chain_events generated_signer seed bytes ≡ Err fault) ⊎ (fault ≡ chains.NoMemory) → fault ≡ chains.NoMemory
+check_wants seed bytes events fault drawn is same (inl refused) = let wrong : Ok (map floored_message events) ≡ Err fault = sym (check_passes seed bytes events drawn is same) ∙ refused in cc
+check_wants seed bytes events fault drawn is same (inr none) = none
 
 -- a count that is always 0 neither rises nor is saturated
 pub never_rises : RoseOrStands 0 0 → ⊥

@@ -221,12 +221,12 @@ pub signing_wants : (case : Target → Case) (fault : StreamFault) → case gene
     → Unsigned (codes "https://gen.amazonaws.com/") generated_moment case (stream_ending fault) → fault ≡ faults.NoMemory
 signing_wants case fault is fails_so = wants_memory fault (by_early (stream_ending fault) fails_so)
   where
-    by_target : (target : TargetRead) → (target ≡ unread) ⊎ (target ≡ accepted generated_target) → (told : RunFault) → request_fault generated_moment case target ≡ Some told → ⊥
-    by_target target (inl same) told stopped = let none : None ≡ Some told = rw same at stopped in cc
-    by_target target (inr same) told stopped = let none : None ≡ Some told = rw (same, is, case_fits) at stopped in cc
+    by_target : (target : TargetRead) → (target ≡ unread) ⊎ (target ≡ accepted generated_target) → (reason : RunFault) → request_fault generated_moment case target ≡ Some reason → ⊥
+    by_target target (inl same) reason stopped = let none : None ≡ Some reason = rw same at stopped in cc
+    by_target target (inr same) reason stopped = let none : None ≡ Some reason = rw (same, is, case_fits) at stopped in cc
 
     by_early : (early : Ending) → Unsigned (codes "https://gen.amazonaws.com/") generated_moment case early → early ≡ no_memory
-    by_early (refused told) unsigned = absurd (by_target unsigned.0 (target_is unsigned.0 unsigned.1) told unsigned.2)
+    by_early (refused reason) unsigned = absurd (by_target unsigned.0 (target_is unsigned.0 unsigned.1) reason unsigned.2)
     by_early no_memory unsigned = refl
     by_early other unsigned = absurd unsigned
 

@@ -248,7 +248,7 @@ done_seal signer chain (sealed_over signature) before now goes = by_events (chai
   where
     by_events : (outcome : Result (List Parts) ChainFault) → chain_events signer signature chain ≡ outcome → GoesAsPlanned (checked_plan outcome) done before now → HasPassed signer chain (sealed_over signature) before now
     by_events (Ok events) is goes = record { signature = signature; events = events; sealed = refl; chained = is; gains = goes.gains }
-    by_events (Err told) is goes = absurd (stops_undone _ before now (λ e. cc) goes)
+    by_events (Err fault) is goes = absurd (stops_undone _ before now (λ e. cc) goes)
 
 done_record : (gave : List Place → FilesRead → Type 0) (env : List (List ℕ × List ℕ)) (wanted : CheckWanted) (bytes : List ℕ) (reading : Result RecordParts ℕ) (given : Supplied) (before now : Option (List ℕ))
     → length bytes ≤ most_input → spelled_record bytes ≡ reading → GaveRecord gave env wanted reading given → GoesAsPlanned (check_plan env wanted given reading) done before now → HasChecked gave env wanted bytes given before now
@@ -380,10 +380,10 @@ generated_completes seed count answer goes = written_completes (shown_stream (dr
 -- the seal that a request carries is one
 seal_is : (headers : List Pair) (target region name : List ℕ) (seal : SealRead) (signature : List ℕ) → CarriesSeal headers target region name seal → CarriesSeal headers target region name (sealed_over signature)
     → (seal ≡ unsought) ⊎ (seal ≡ sealed_over signature)
-seal_is headers target region name unsought signature told other = inl refl
-seal_is headers target region name unsealed signature told other = absurd (told other.0 other.1)
-seal_is headers target region name (sealed_over own) signature told other =
-    inr (ap sealed_over (sym told.2 ∙ sym (ap (λ (seal : SealParts). seal.signature) (told.3 other.0 other.1)) ∙ other.2))
+seal_is headers target region name unsought signature carries other = inl refl
+seal_is headers target region name unsealed signature carries other = absurd (carries other.0 other.1)
+seal_is headers target region name (sealed_over own) signature carries other =
+    inr (ap sealed_over (sym carries.2 ∙ sym (ap (λ (seal : SealParts). seal.signature) (carries.3 other.0 other.1)) ∙ other.2))
 
 -- what passes completes
 completes_record : (gave : List Place → FilesRead → Type 0) (env : List (List ℕ × List ℕ)) (wanted : CheckWanted) (bytes : List ℕ) (given other : Supplied) (answer : Ending) (input : IsSoundRecord gave env wanted bytes other)
@@ -392,9 +392,9 @@ unfolding command_plan
 completes_record gave env wanted bytes given other answer input files found goes =
     let large : nat_lt most_input (length bytes) ≡ false = (let short = input.short in grind (arith, nat_tests)) in
     let are : given.files ≡ loaded input.texts = sym files ∙ input.files in
-    let told : CarriesSeal input.read.headers input.read.target input.selected.region wanted.name given.seal = rw (are, input.settled) at found.seal in
+    let carries : CarriesSeal input.read.headers input.read.target input.selected.region wanted.name given.seal = rw (are, input.settled) at found.seal in
     let carried : CarriesSeal input.read.headers input.read.target input.selected.region wanted.name (sealed_over input.signature) = rw (input.files, input.settled, input.sealed) at input.supplied.seal in
-    by_seal (seal_is input.read.headers input.read.target input.selected.region wanted.name given.seal input.signature told carried) (rw (large, input.spelled, are, input.settled) at goes)
+    by_seal (seal_is input.read.headers input.read.target input.selected.region wanted.name given.seal input.signature carries carried) (rw (large, input.spelled, are, input.settled) at goes)
   where
     by_seal : (given.seal ≡ unsought) ⊎ (given.seal ≡ sealed_over input.signature) → EndsAsPlanned (sealed_plan (check_signer wanted input.selected) input.read.chain given.seal) answer → Completes answer
     by_seal (inl is) goes = stopped_completes answer (rw is at goes)

@@ -128,7 +128,7 @@ shown_at old new read before now reached none current =
 -- what was shown of a walk that ends here comes behind what was shown before
 ends_showing : (events : List Parts) (walked : Walk) (taken : List ℕ) (left : Option (List ℕ)) (answer : Ending) (a b c : Option (List ℕ)) → Gains a b (event_lines events) → StopsShowing walked answer b c
     → EndsWalk (walk_onto events walked) taken left answer a c
-ends_showing events walked taken left (check_failed (checks.Chain told)) a b c before stops = (inl stops.0, gains_lines a b c events walked.events before stops.1)
+ends_showing events walked taken left (check_failed (checks.Chain fault)) a b c before stops = (inl stops.0, gains_lines a b c events walked.events before stops.1)
 ends_showing events walked taken left output_fault a b c before stops = inl (prefix_lines a b c events walked.events before stops)
 ends_showing events walked taken left no_memory a b c before stops = inl (prefix_lines a b c events walked.events before stops)
 ends_showing events walked taken left other a b c before stops = absurd stops
@@ -223,7 +223,7 @@ ends_input start new all left answer a b c begins fit read ends =
 
     by_end : (end : Ending) → EndsInput new end b c → EndsWalk walked read.taken left end a c
     by_end done ends = (ends.0, whole, last ends.1)
-    by_end (check_failed (checks.Chain told)) ends = (inr (ends.0, whole), same ends.1)
+    by_end (check_failed (checks.Chain fault)) ends = (inr (ends.0, whole), same ends.1)
     by_end output_fault ends = inr (ends.0, whole, front ends.1)
     by_end no_memory (inl is) = inl (prefix_from_whole a c (event_lines events) (same is))
     by_end no_memory (inr ends) = inr (ends.0, whole, front ends.1)
@@ -285,10 +285,10 @@ fit_shown old mid new events fit walks watch waiting shown =
     }
 
 -- the lines weren't all written
-pub stops_unwritten : (old mid : Progress) (events : List Parts) (fault : Option ChainFault) (before now : Option (List ℕ)) (told : StreamFault) → WalksWaiting old mid events fault
-    → EndsEarly None (event_lines events) before now (stream_ending told) → StopsShowing (walk_with old []) (stream_ending told) before now
-stops_unwritten old mid events fault before now told walks ends_early =
-    subst (λ (w : Walk). StopsShowing w (stream_ending told) before now) (sym walks.walked) (by_early (stream_ending told) ends_early)
+pub stops_unwritten : (old mid : Progress) (events : List Parts) (fault : Option ChainFault) (before now : Option (List ℕ)) (reason : StreamFault) → WalksWaiting old mid events fault
+    → EndsEarly None (event_lines events) before now (stream_ending reason) → StopsShowing (walk_with old []) (stream_ending reason) before now
+stops_unwritten old mid events fault before now reason walks ends_early =
+    subst (λ (w : Walk). StopsShowing w (stream_ending reason) before now) (sym walks.walked) (by_early (stream_ending reason) ends_early)
   where
     by_early : (early : Ending) → EndsEarly None (event_lines events) before now early → StopsShowing (record { events = events; at = mid.watch.at }) early before now
     by_early (refused fault) ends_early = let wrong : None ≡ Some fault = ends_early.0 in cc

@@ -244,7 +244,7 @@ keeps_texts env wanted given answer before now (Err place) goes = keeps_same (co
 
 keeps_checked : (wanted : CheckWanted) (answer : Ending) (before now : Option (List ℕ)) (outcome : Result (List Parts) ChainFault) → GoesAsPlanned (checked_plan outcome) answer before now → KeepsOutput (comes_late (check_record wanted)) answer before now
 keeps_checked wanted answer before now (Ok events) goes = keeps_written (comes_late (check_record wanted)) (shown_events events) done answer before now tt goes
-keeps_checked wanted answer before now (Err told) goes = keeps_same (comes_late (check_record wanted)) answer before now goes.gains
+keeps_checked wanted answer before now (Err fault) goes = keeps_same (comes_late (check_record wanted)) answer before now goes.gains
 
 keeps_sealed : (wanted : CheckWanted) (signer : Signer) (chain : List ℕ) (seal : SealRead) (answer : Ending) (before now : Option (List ℕ)) → GoesAsPlanned (sealed_plan signer chain seal) answer before now → KeepsOutput (comes_late (check_record wanted)) answer before now
 keeps_sealed wanted signer chain unsought answer before now goes = keeps_same (comes_late (check_record wanted)) answer before now goes.gains

@@ -21,7 +21,7 @@ said_asked command end answer fits (inr is) = rw is (asked_no_memory command)
 cut_short : (plan : Plan) (end : Ending) (before now : Option (List ℕ)) → GainsAsPlanned plan end before now → GainsAsPlanned plan no_memory before now
 cut_short (stops early) end before now gains = gains
 cut_short (writes text whole) done before now gains = prefix_from_whole before now text gains
-cut_short (writes text whole) (refused told) before now gains = prefix_from_whole before now text gains
+cut_short (writes text whole) (refused fault) before now gains = prefix_from_whole before now text gains
 cut_short (writes text whole) output_fault before now gains = gains
 cut_short (writes text whole) no_memory before now gains = gains
 cut_short (writes text whole) other before now gains = rw gains (prefix_at_start before text)
@@ -42,9 +42,9 @@ said_keeps late end answer before now keeps (inl is) = rw is keeps
 said_keeps late end answer before now keeps (inr is) = rw is tt
 
 -- an answer other than that memory ran out is the end itself
-pub said_is : (end answer told : Ending) → IsSaid end answer → answer ≡ told → (told ≡ no_memory → ⊥) → end ≡ told
-said_is end answer told (inl is) reached other = sym is ∙ reached
-said_is end answer told (inr is) reached other = absurd (other (sym reached ∙ is))
+pub said_is : (end answer known : Ending) → IsSaid end answer → answer ≡ known → (known ≡ no_memory → ⊥) → end ≡ known
+said_is end answer known (inl is) reached other = sym is ∙ reached
+said_is end answer known (inr is) reached other = absurd (other (sym reached ∙ is))
 
 -- what holds where the run is done holds where it says so
 pub said_when : (test : Bool) (end answer : Ending) (P : Type 0) → When test (end ≡ done → P) → IsSaid end answer → When test (answer ≡ done → P)

@@ -84,8 +84,8 @@ module _ (who : Signer) (place : ℕ) (signature : List ℕ) (t : Instant) (byte
 -- ## The chain
 
 -- a frame that is refused ends early, before it is written
-refused_before : (stopped : Option RunFault) (told : RunFault) (line : List ℕ) (held : Option (List ℕ)) → stopped ≡ Some told → EndsEarly stopped (unless_refused stopped line) held held (refused told)
-refused_before stopped told line held is = rw is (refl, gains_nothing held)
+refused_before : (stopped : Option RunFault) (reason : RunFault) (line : List ℕ) (held : Option (List ℕ)) → stopped ≡ Some reason → EndsEarly stopped (unless_refused stopped line) held held (refused reason)
+refused_before stopped reason line held is = rw is (refl, gains_nothing held)
 
 -- and so does one that finds no memory
 wanting_before : (stopped : Option RunFault) (line : List ℕ) (held : Option (List ℕ)) → EndsEarly stopped (unless_refused stopped line) held held no_memory
@@ -204,7 +204,7 @@ module _ {C : Type 0} (clock : Clock.Ghosts C) (form : Form) (who : Signer) (eve
 
               by_fault : Seals who place is_open.signature left t bytes new_told (Err fault) → HasSentChain b new_moments after (Err fault)
               by_fault (inl wants) = ends_early wants (wanting_before stopped line b)
-              by_fault (inr (told_fault, is, refuses)) = ends_early is (refused_before stopped told_fault line b refuses)
+              by_fault (inr (reason, is, refuses)) = ends_early is (refused_before stopped reason line b refuses)
 
           module _ (result : Unit {0}) (seals : SealsNext (Ok result)) where
             sealed_left : Seals who place is_open.signature left t bytes new_told (Ok result)

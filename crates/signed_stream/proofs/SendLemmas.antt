@@ -29,7 +29,7 @@ written_lines form (Some refusal) target c events moments = refl
 -- a back is sent after its front
 back_ended_early : (a b c : Option (List ℕ)) (front back : List ℕ) (fault : Option RunFault) (early : Ending)
     → Gains a b front → EndsEarly fault back b c early → EndsEarly fault (front ++ back) a c early
-back_ended_early a b c front back fault (refused told) first second = (second.0, gains_last a b c back (front ++ back) (gains_front a b front back first) second.1)
+back_ended_early a b c front back fault (refused reason) first second = (second.0, gains_last a b c back (front ++ back) (gains_front a b front back first) second.1)
 back_ended_early a b c front back fault output_fault first second = prefix_join a b c back (front ++ back) (gains_front a b front back first) second
 back_ended_early a b c front back fault no_memory first second = prefix_join a b c back (front ++ back) (gains_front a b front back first) second
 back_ended_early a b c front back fault other first second = absurd second
@@ -37,12 +37,12 @@ back_ended_early a b c front back fault other first second = absurd second
 back_sent : {T : Type 0} (a b c : Option (List ℕ)) (front back : List ℕ) (fault : Option RunFault) (answer : Result T StreamFault)
     → Gains a b front → Sends fault back b c answer → Sends fault (front ++ back) a c answer
 back_sent a b c front back fault (Ok x) first second = (second.0, gains_last a b c back (front ++ back) (gains_front a b front back first) second.1)
-back_sent a b c front back fault (Err told) first second = back_ended_early a b c front back fault (stream_ending told) first second
+back_sent a b c front back fault (Err reason) first second = back_ended_early a b c front back fault (stream_ending reason) first second
 
 -- a front that isn't whole is a front of all
 front_ended_early : (a b : Option (List ℕ)) (front back : List ℕ) (fault : Option RunFault) (early : Ending)
     → EndsEarly None front a b early → EndsEarly fault (front ++ back) a b early
-front_ended_early a b front back fault (refused told) ends_early = let wrong : None ≡ Some told = ends_early.0 in cc
+front_ended_early a b front back fault (refused reason) ends_early = let wrong : None ≡ Some reason = ends_early.0 in cc
 front_ended_early a b front back fault output_fault ends_early = prefix_within a b front back ends_early
 front_ended_early a b front back fault no_memory ends_early = prefix_within a b front back ends_early
 front_ended_early a b front back fault other ends_early = absurd ends_early
@@ -58,10 +58,10 @@ module _ {T : Type 0} (form : Form) (head : List ℕ) (who : Signer) (events : L
   }
 
   -- a head that wasn't
-  pub ended_early_before : (a b : Option (List ℕ)) (told : StreamFault) → EndsEarly None head a b (stream_ending told)
-      → SendsAll {T = T} form head who events seed a b [] (Err told)
-  ended_early_before a b told ends_early = record {
-    sends = front_ended_early a b head (streamed_text form who events [] seed None) None (stream_ending told) ends_early;
+  pub ended_early_before : (a b : Option (List ℕ)) (fault : StreamFault) → EndsEarly None head a b (stream_ending fault)
+      → SendsAll {T = T} form head who events seed a b [] (Err fault)
+  ended_early_before a b fault ends_early = record {
+    sends = front_ended_early a b head (streamed_text form who events [] seed None) None (stream_ending fault) ends_early;
     whole = tt;
     next = sent_needed who events seed [] refl (omega arith);
   }
@@ -73,11 +73,11 @@ pub sends_goes : {T : Type 0} (refusal : Option Refusal) (text : List ℕ) (even
 sends_goes None text events moments before now (Ok x) sends counted =
     let same : (length moments == length events + 1) ≡ true = eq-eqb _ _ counted in record { ends = rw same (inl refl); gains = sends.1 }
 sends_goes (Some refusal) text events moments before now (Ok x) sends counted = let wrong : Some refusal.fault ≡ None = sends.0 in cc
-sends_goes refusal text events moments before now (Err told) sends counted = by_early refusal (stream_ending told) sends
+sends_goes refusal text events moments before now (Err reason) sends counted = by_early refusal (stream_ending reason) sends
   where
     by_early : (refusal : Option Refusal) (early : Ending) → EndsEarly (refusal_fault refusal) text before now early → GoesAsPlanned (writes text (written_end refusal events moments)) early before now
-    by_early None (refused told) ends_early = let wrong : None ≡ Some told = ends_early.0 in cc
-    by_early (Some refusal) (refused told) ends_early = let same : refusal.fault ≡ told = (let is : Some refusal.fault ≡ Some told = ends_early.0 in cc) in record { ends = rw same (inl refl); gains = ends_early.1 }
+    by_early None (refused reason) ends_early = let wrong : None ≡ Some reason = ends_early.0 in cc
+    by_early (Some refusal) (refused reason) ends_early = let same : refusal.fault ≡ reason = (let is : Some refusal.fault ≡ Some reason = ends_early.0 in cc) in record { ends = rw same (inl refl); gains = ends_early.1 }
     by_early refusal output_fault ends_early = record { ends = inr (inr (inl refl)); gains = ends_early }
     by_early refusal no_memory ends_early = record { ends = inr (inr (inr refl)); gains = ends_early }
     by_early refusal other ends_early = absurd ends_early
@@ -85,10 +85,10 @@ sends_goes refusal text events moments before now (Err told) sends counted = by_
 -- a text alone
 pub text_goes : {T : Type 0} (text : List ℕ) (before now : Option (List ℕ)) (answer : Result T StreamFault) → Sends None text before now answer → GoesAsPlanned (writes text done) (ended answer) before now
 text_goes text before now (Ok x) sends = record { ends = inl refl; gains = sends.1 }
-text_goes text before now (Err told) sends = by_early (stream_ending told) sends
+text_goes text before now (Err reason) sends = by_early (stream_ending reason) sends
   where
     by_early : (early : Ending) → EndsEarly None text before now early → GoesAsPlanned (writes text done) early before now
-    by_early (refused told) ends_early = let wrong : None ≡ Some told = ends_early.0 in cc
+    by_early (refused reason) ends_early = let wrong : None ≡ Some reason = ends_early.0 in cc
     by_early output_fault ends_early = record { ends = inr (inr (inl refl)); gains = ends_early }
     by_early no_memory ends_early = record { ends = inr (inr (inr refl)); gains = ends_early }
     by_early other ends_early = absurd ends_early
@@ -96,10 +96,10 @@ text_goes text before now (Err told) sends = by_early (stream_ending told) sends
 -- which ends for no more than the output and memory
 pub text_ends : {T : Type 0} (text : List ℕ) (before now : Option (List ℕ)) (answer : Result T StreamFault) → Sends None text before now answer → IsOfOutput (ended answer)
 text_ends text before now (Ok x) sends = tt
-text_ends text before now (Err told) sends = by_early (stream_ending told) sends
+text_ends text before now (Err reason) sends = by_early (stream_ending reason) sends
   where
     by_early : (early : Ending) → EndsEarly None text before now early → IsOfOutput early
-    by_early (refused told) ends_early = let wrong : None ≡ Some told = ends_early.0 in cc
+    by_early (refused reason) ends_early = let wrong : None ≡ Some reason = ends_early.0 in cc
     by_early output_fault ends_early = tt
     by_early no_memory ends_early = tt
     by_early other ends_early = absurd ends_early

@@ -202,7 +202,7 @@ module _ (request copy : HttpRequest) (identity : Identity) (region : List ℕ) 
   -- a request that isn't
   pub unsigned_as_asked : (early : Ending) → Unsigned (string_bytes copy.target) (request_moment asked first) (identity_case copy identity region asked first) early
       → Unsigned (string_bytes request.target) (request_moment wanted first) (identity_case request identity region wanted first) early
-  unsigned_as_asked (refused told) (t, spells, stopped) = (t, rw target at spells, sym (fault_is t) ∙ stopped)
+  unsigned_as_asked (refused fault) (t, spells, stopped) = (t, rw target at spells, sym (fault_is t) ∙ stopped)
   unsigned_as_asked no_memory free = tt
   unsigned_as_asked other wrong = absurd wrong
 
@@ -244,8 +244,8 @@ module _ {F : Type 0} (calls : Shared F (Bor SigningSettings × (Bor SigV4Operat
           → option_or (refusal_before_target (chosen inputs first) answer) (option_map auth.Signing (unsigned_target (chosen_case old identity (chosen inputs first) (name_in answer)) stopped.target)) ≡ Some error
           → RefusesFor (string_bytes old.target) (request_moment wanted first) (identity_case old identity region wanted first) error
       by_answer (Err e) is reads failed =
-          let told : Some (override_error e) ≡ Some error = failed in
-          let same : error ≡ auth.NoMemory = (let first : Some (override_error overrides.NoMemory) ≡ Some error = rw is at told in cc) in
+          let refuses : Some (override_error e) ≡ Some error = failed in
+          let same : error ≡ auth.NoMemory = (let first : Some (override_error overrides.NoMemory) ≡ Some error = rw is at refuses in cc) in
           no_memory_refuses (string_bytes old.target) (request_moment wanted first) (identity_case old identity region wanted first) error same
       by_answer (Ok name) named reads failed =
           by_years (is_in_years (request_moment wanted first)) refl (rw asks.chosen_is at reads) (rw (asks.chosen_is, named) at failed)

@@ -35,23 +35,23 @@ use Rattle.signed_stream.proofs.RunLemmas.{goes_no_memory, goes_stopped, no_mome
 use Rattle.signed_stream.proofs.SendLemmas.{sends_goes, written_lines}
 
 -- a fault that stops
-stopped : (fault told : RunFault) (held : Option (List ℕ)) → fault ≡ told → GoesAsPlanned (stops (refused fault)) (refused told) held held
-stopped fault told held is = rw is (goes_stopped (refused told) held)
+stopped : (fault answered : RunFault) (held : Option (List ℕ)) → fault ≡ answered → GoesAsPlanned (stops (refused fault)) (refused answered) held held
+stopped fault answered held is = rw is (goes_stopped (refused answered) held)
 
 -- a request that isn't signed is refused
-refused_goes : (form : Form) (text : List ℕ) (at : Instant) (case : Target → Case) (events : List Parts) (moments : List Instant) (target : TargetRead) (told : RunFault) (held : Option (List ℕ))
-    → request_fault at case target ≡ Some told → GoesAsPlanned (request_plan form text at case events moments target) (refused told) held held
-refused_goes form text at case events moments target told held is = by_years (is_in_years at) is
+refused_goes : (form : Form) (text : List ℕ) (at : Instant) (case : Target → Case) (events : List Parts) (moments : List Instant) (target : TargetRead) (fault : RunFault) (held : Option (List ℕ))
+    → request_fault at case target ≡ Some fault → GoesAsPlanned (request_plan form text at case events moments target) (refused fault) held held
+refused_goes form text at case events moments target fault held is = by_years (is_in_years at) is
   where
-    by_target : (target : TargetRead) → target_fault case target ≡ Some told → GoesAsPlanned (target_plan form text case events moments target) (refused told) held held
+    by_target : (target : TargetRead) → target_fault case target ≡ Some fault → GoesAsPlanned (target_plan form text case events moments target) (refused fault) held held
     by_target unread is = cc
-    by_target unaccepted is = stopped invalid_uri told held cc
-    by_target (accepted target) is = rw is (goes_stopped (refused told) held)
+    by_target unaccepted is = stopped invalid_uri fault held cc
+    by_target (accepted target) is = rw is (goes_stopped (refused fault) held)
 
-    by_years : (years : Bool) → option_or (if years then None else Some (moment_out_of_range at)) (target_fault case target) ≡ Some told
-        → GoesAsPlanned (if years then target_plan form text case events moments target else stops (refused (moment_out_of_range at))) (refused told) held held
+    by_years : (years : Bool) → option_or (if years then None else Some (moment_out_of_range at)) (target_fault case target) ≡ Some fault
+        → GoesAsPlanned (if years then target_plan form text case events moments target else stops (refused (moment_out_of_range at))) (refused fault) held held
     by_years true is = by_target target is
-    by_years false is = stopped (moment_out_of_range at) told held cc
+    by_years false is = stopped (moment_out_of_range at) fault held cc
 
 -- a request that no test refuses is written
 passed_plan : (form : Form) (text : List ℕ) (at : Instant) (case : Target → Case) (events : List Parts) (moments : List Instant) (target : Target) → request_fault at case (accepted target) ≡ None
@@ -84,8 +84,8 @@ module _ (j : JobParts) (wanted : Wanted) (selected : Selected) (first : Instant
   -- a request that isn't signed
   pub unsigned_goes : (text : List ℕ) (early : Ending) (held : Option (List ℕ)) → text ≡ j.target → Unsigned text (request_moment wanted first) (job_case j wanted selected first) early
       → (target : TargetRead) × TargetSpells text target × GoesAsPlanned (planned target (first ∷ [])) early held held
-  unsigned_goes text (refused told) held is unsigned =
-      (unsigned.0, unsigned.1, refused_goes wanted.form j.target (request_moment wanted first) (job_case j wanted selected first) j.events [] unsigned.0 told held unsigned.2)
+  unsigned_goes text (refused fault) held is unsigned =
+      (unsigned.0, unsigned.1, refused_goes wanted.form j.target (request_moment wanted first) (job_case j wanted selected first) j.events [] unsigned.0 fault held unsigned.2)
   unsigned_goes text no_memory held is unsigned = (unread, tt, goes_no_memory (planned unread (first ∷ [])) held)
   unsigned_goes text other held is unsigned = absurd unsigned
 
@@ -143,18 +143,18 @@ never_failed text at case fault unsigned is = subst (λ (f : StreamFault). Unsig
 
 module _ (files : List FileText) (profile : List ℕ) (env : List (List ℕ × List ℕ)) (wanted : Wanted) (j : JobParts) where
   -- settings that aren't whole end it
-  pub lacking_goes : (fault : SettingsFault) (told : StreamFault) (target : TargetRead) (held : Option (List ℕ)) → GivesSettings (settings files profile env wanted.profile.service_id) (Err fault)
-      → stream_ending told ≡ settings_ending fault → GoesAsPlanned (stream_plan files profile env wanted j target []) (stream_ending told) held held
-  lacking_goes faults.NoMemory told target held gives tells = rw tells (goes_no_memory (stream_plan files profile env wanted j target []) held)
-  lacking_goes other told target held gives tells = rw (gives, tells) (goes_stopped _ held)
+  pub lacking_goes : (fault : SettingsFault) (answered : StreamFault) (target : TargetRead) (held : Option (List ℕ)) → GivesSettings (settings files profile env wanted.profile.service_id) (Err fault)
+      → stream_ending answered ≡ settings_ending fault → GoesAsPlanned (stream_plan files profile env wanted j target []) (stream_ending answered) held held
+  lacking_goes faults.NoMemory answered target held gives ends = rw ends (goes_no_memory (stream_plan files profile env wanted j target []) held)
+  lacking_goes other answered target held gives ends = rw (gives, ends) (goes_stopped _ held)
 
   -- what is valid isn't lacking
-  pub lacking_completes : (fault : SettingsFault) (told : StreamFault) (selected : Selected) → GivesSettings (settings files profile env wanted.profile.service_id) (Err fault)
-      → settings files profile env wanted.profile.service_id ≡ Ok selected → stream_ending told ≡ settings_ending fault → CompletesStream (stream_ending told)
-  lacking_completes (faults.ParseError error) told selected gives settled tells = let wrong : Err (parse_error (faulty_line_of error)) ≡ Ok selected = sym gives ∙ settled in cc
-  lacking_completes faults.MissingCredentials told selected gives settled tells = let wrong : Err missing_credentials ≡ Ok selected = sym gives ∙ settled in cc
-  lacking_completes faults.MissingSigningRegion told selected gives settled tells = let wrong : Err missing_signing_region ≡ Ok selected = sym gives ∙ settled in cc
-  lacking_completes faults.NoMemory told selected gives settled tells = inr (inr tells)
+  pub lacking_completes : (fault : SettingsFault) (answered : StreamFault) (selected : Selected) → GivesSettings (settings files profile env wanted.profile.service_id) (Err fault)
+      → settings files profile env wanted.profile.service_id ≡ Ok selected → stream_ending answered ≡ settings_ending fault → CompletesStream (stream_ending answered)
+  lacking_completes (faults.ParseError error) answered selected gives settled ends = let wrong : Err (parse_error (faulty_line_of error)) ≡ Ok selected = sym gives ∙ settled in cc
+  lacking_completes faults.MissingCredentials answered selected gives settled ends = let wrong : Err missing_credentials ≡ Ok selected = sym gives ∙ settled in cc
+  lacking_completes faults.MissingSigningRegion answered selected gives settled ends = let wrong : Err missing_signing_region ≡ Ok selected = sym gives ∙ settled in cc
+  lacking_completes faults.NoMemory answered selected gives settled ends = inr (inr ends)
 
 -- ## A copy of the request
 

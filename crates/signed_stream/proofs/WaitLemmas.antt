@@ -32,7 +32,7 @@ stays_unfinished signer signature passed bytes is = by_first (first_of bytes) (s
 
     by_test : (rest : List ℕ) (tested : Result Passed ChainFault) → walk_tested (walk_frames signer) passed rest tested ≡ stays (unclosed signature passed bytes) → ⊥
     by_test rest (Ok passing) is = by_event rest passing.signature passing.event is
-    by_test rest (Err told) is = let wrong : failed told ≡ unclosed signature passed bytes = ap (λ (w : Walk). w.at) is in cc
+    by_test rest (Err reason) is = let wrong : failed reason ≡ unclosed signature passed bytes = ap (λ (w : Walk). w.at) is in cc
 
     by_first : (first : First) → walk_on (walk_frames signer) signer signature passed bytes first ≡ stays (unclosed signature passed bytes) → IsUnfinished first
     by_first nothing is = tt
@@ -44,11 +44,11 @@ stays_unfinished signer signature passed bytes is = by_first (first_of bytes) (s
 few_unfinished : (left more : List ℕ) → IsUnfinished (first_of left) → length more < frame_wants left → IsUnfinished (first_of (left ++ more))
 few_unfinished left more unfinished few = by_length (nat_lt (length left) 12) refl few
   where
-    by_prelude : (told : Result Lengths ErrorKind) → read_prelude (take 12 left) ≡ told → 12 ≤ length left → length more < announced left - length left → IsUnfinished (first_of (left ++ more))
-    by_prelude (Err kind) told long few = absurd (subst IsUnfinished (first_bad left kind long told) unfinished)
-    by_prelude (Ok lengths) told long few =
-        let total : lengths.total ≡ announced left = (prelude_told (take 12 left) lengths told).total ∙ announced_prelude left in
-        more_unfinished (left ++ more) lengths (omega (arith, long, length-append left more)) (ap read_prelude (take-append-le 12 left more long) ∙ told)
+    by_prelude : (read : Result Lengths ErrorKind) → read_prelude (take 12 left) ≡ read → 12 ≤ length left → length more < announced left - length left → IsUnfinished (first_of (left ++ more))
+    by_prelude (Err kind) read long few = absurd (subst IsUnfinished (first_bad left kind long read) unfinished)
+    by_prelude (Ok lengths) read long few =
+        let total : lengths.total ≡ announced left = (prelude_told (take 12 left) lengths read).total ∙ announced_prelude left in
+        more_unfinished (left ++ more) lengths (omega (arith, long, length-append left more)) (ap read_prelude (take-append-le 12 left more long) ∙ read)
         (omega (arith, few, total, length-append left more))
 
     by_length : (short : Bool) → nat_lt (length left) 12 ≡ short → length more < (if short then 12 - length left else announced left - length left) → IsUnfinished (first_of (left ++ more))
@@ -75,7 +75,7 @@ few_stay watch bytes (unclosed signature passed left) here current few walked is
     ap (λ (p : Point). walk watch.signer p bytes) here ∙ unfinished_stays watch.signer signature passed (left ++ bytes) (few_unfinished left bytes unfinished few) in
     subst IsIdleWalk (sym still ∙ is) (refl, tt)
 few_stay watch bytes (closed passed) here current few walked is = absurd (omega (arith, few))
-few_stay watch bytes (failed told) here current few walked is = absurd (omega (arith, few))
+few_stay watch bytes (failed reason) here current few walked is = absurd (omega (arith, few))
 
 -- fewer bytes wait than are wanted
 pub idle_few : (progress : Progress) → IsCurrent progress.watch → length progress.waiting.items < wanted progress.watch.at → IsIdle progress

@@ -82,7 +82,7 @@ framed_within (suc most) signer signature passed bytes = by_first (λ next rest.
     by_test : ((next rest : List ℕ) → AllFramed (walk_within most signer next (passed + 1) rest).events) → (message : Parts) (rest : List ℕ) (tested : Result Passed ChainFault)
         → frame_test signer signature (passed + 1) message ≡ tested → AllFramed (walk_tested (walk_within most signer) passed rest tested).events
     by_test deeper message rest (Ok passing) is = by_event deeper rest passing.signature passing.event (λ inside holds. tested_framed signer signature (passed + 1) message passing inside is holds)
-    by_test deeper message rest (Err told) is = tt
+    by_test deeper message rest (Err fault) is = tt
 
     by_first : ((next rest : List ℕ) → AllFramed (walk_within most signer next (passed + 1) rest).events) → (first : First) → AllFramed (walk_on (walk_within most signer) signer signature passed bytes first).events
     by_first deeper (begins message rest) = by_test deeper message rest (frame_test signer signature (passed + 1) message) refl
@@ -92,7 +92,7 @@ framed_walk : (signer : Signer) (at : Point) (bytes : List ℕ) → AllFramed (w
 unfolding walk_frames
 framed_walk signer (unclosed signature passed left) bytes = framed_within (length (left ++ bytes)) signer signature passed (left ++ bytes)
 framed_walk signer (closed passed) bytes = closing_framed passed bytes
-framed_walk signer (failed told) bytes = tt
+framed_walk signer (failed fault) bytes = tt
 
 first_framed : (first others : List Parts) → AllFramed (first ++ others) → AllFramed first
 first_framed [] others all = tt
@@ -125,7 +125,7 @@ takes_within (suc most) signer signature passed bytes = by_first (λ next rest. 
     by_test : ((next rest : List ℕ) → Takes (walk_within most signer next (passed + 1) rest) (length rest)) → (message : Parts) (rest : List ℕ) (tested : Result Passed ChainFault) → length rest < length bytes
         → Takes (walk_tested (walk_within most signer) passed rest tested) (length bytes)
     by_test deeper message rest (Ok passing) less = by_event deeper rest passing.signature passing.event less
-    by_test deeper message rest (Err told) less = omega arith
+    by_test deeper message rest (Err fault) less = omega arith
 
     by_first : ((next rest : List ℕ) → Takes (walk_within most signer next (passed + 1) rest) (length rest)) → (first : First) → first_of bytes ≡ first
         → Takes (walk_on (walk_within most signer) signer signature passed bytes first) (length bytes)
@@ -137,4 +137,4 @@ unfolding walk_frames
 walk_takes signer (unclosed signature passed left) bytes =
     let whole = takes_within (length (left ++ bytes)) signer signature passed (left ++ bytes) in omega (arith, whole, length-append left bytes)
 walk_takes signer (closed passed) bytes = closing_takes passed bytes (0 + length bytes)
-walk_takes signer (failed told) bytes = omega arith
+walk_takes signer (failed fault) bytes = omega arith

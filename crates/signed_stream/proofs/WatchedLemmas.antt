@@ -28,7 +28,7 @@ use Rattle.signed_stream.proofs.SaidLemmas.{IsSaid}
 
 front_of : (walked : Walk) (taken : List ℕ) (left : Option (List ℕ)) (end : Ending) (before now : Option (List ℕ)) → EndsWalk walked taken left end before now → GainsFrontOf walked taken left before now
 front_of walked taken left done before now ends = inr (ends.0, ends.1, prefix_from_whole before now _ ends.2)
-front_of walked taken left (check_failed (checks.Chain told)) before now ends = inl (prefix_from_whole before now _ ends.1)
+front_of walked taken left (check_failed (checks.Chain fault)) before now ends = inl (prefix_from_whole before now _ ends.1)
 front_of walked taken left job_too_large before now ends = inl (prefix_from_whole before now _ ends.2)
 front_of walked taken left read_fault before now ends = inl (prefix_from_whole before now _ ends.1)
 front_of walked taken left output_fault before now ends = ends
@@ -59,7 +59,7 @@ said_input gave env wanted all left end answer before now watches said = record 
 
 -- the whole input was taken
 taken_all : (bytes taken : List ℕ) (all left : Option (List ℕ)) → all ≡ Some bytes → IsCutOf all taken left → IsAtEnd left → taken ≡ bytes
-taken_all bytes taken all left told cut ended = cut_at_end (Some bytes) taken left (rw told at cut) ended
+taken_all bytes taken all left shown cut ended = cut_at_end (Some bytes) taken left (rw shown at cut) ended
 
 -- a chain that may end there is a chain of the events of its walk
 whole_chain : (signer : Signer) (seed bytes : List ℕ) → ending (walk signer (seed_point seed) bytes).at ≡ Ok tt → chain_events signer seed bytes ≡ Ok (walk signer (seed_point seed) bytes).events
@@ -68,9 +68,9 @@ whole_chain signer seed bytes may = sym (starts signer seed bytes) ∙ ap (λ (e
 done_watch : (env : List (List ℕ × List ℕ)) (wanted : WatchWanted) (bytes : List ℕ) (texts : List FileText) (selected : Selected) (all left before now : Option (List ℕ))
     → settings texts (selected_profile env) env wanted.profile.service_id ≡ Ok selected → all ≡ Some bytes → Watches (watch_signer wanted selected) wanted.seed all left done before now
     → HasWatched env wanted bytes (loaded texts) before now
-done_watch env wanted bytes texts selected all left before now settled told watches =
+done_watch env wanted bytes texts selected all left before now settled shown watches =
     let signer = watch_signer wanted selected in
-    let same : watches.taken ≡ bytes = taken_all bytes watches.taken all left told watches.cut watches.ends.1.0 in
+    let same : watches.taken ≡ bytes = taken_all bytes watches.taken all left shown watches.cut watches.ends.1.0 in
     let short : length watches.taken ≤ most_input = watches.ends.1.1 in
     let walked : walk_taken signer wanted.seed watches.taken ≡ walk signer (seed_point wanted.seed) bytes =
     ap (walk signer (seed_point wanted.seed)) (take_all most_input watches.taken short ∙ same) in
@@ -93,43 +93,43 @@ undone early other (inr is) = cc
 
 done_selected : (env : List (List ℕ × List ℕ)) (wanted : WatchWanted) (bytes : List ℕ) (files : FilesRead) (all left before now : Option (List ℕ)) → all ≡ Some bytes
     → WatchesSelected wanted (selection env wanted.profile.service_id files) all left done before now → HasWatched env wanted bytes files before now
-done_selected env wanted bytes unloaded all left before now told watches = absurd (undone no_memory (λ e. cc) watches.0)
-done_selected env wanted bytes (unreadable path) all left before now told watches = absurd (undone (could_not_read_file path) (λ e. cc) watches.0)
-done_selected env wanted bytes (loaded texts) all left before now told watches = by_settings (settings texts (selected_profile env) env wanted.profile.service_id) refl watches
+done_selected env wanted bytes unloaded all left before now shown watches = absurd (undone no_memory (λ e. cc) watches.0)
+done_selected env wanted bytes (unreadable path) all left before now shown watches = absurd (undone (could_not_read_file path) (λ e. cc) watches.0)
+done_selected env wanted bytes (loaded texts) all left before now shown watches = by_settings (settings texts (selected_profile env) env wanted.profile.service_id) refl watches
   where
     by_settings : (chosen : Result Selected RunFault) → settings texts (selected_profile env) env wanted.profile.service_id ≡ chosen
         → WatchesSelected wanted (or_refused chosen) all left done before now → HasWatched env wanted bytes (loaded texts) before now
-    by_settings (Ok selected) is watches = done_watch env wanted bytes texts selected all left before now is told watches
+    by_settings (Ok selected) is watches = done_watch env wanted bytes texts selected all left before now is shown watches
     by_settings (Err fault) is watches = absurd (undone (refused fault) (λ e. cc) watches.0)
 
 -- ## Where it could be
 
 -- a whole chain may end where its walk is
-not_ended : (signer : Signer) (seed bytes : List ℕ) (events : List Parts) (told : ChainFault) → chain_events signer seed bytes ≡ Ok events → ending (walk signer (seed_point seed) bytes).at ≡ Err told → ⊥
-not_ended signer seed bytes events told chained fails =
-    let wrong : Ok events ≡ Err told =
+not_ended : (signer : Signer) (seed bytes : List ℕ) (events : List Parts) (fault : ChainFault) → chain_events signer seed bytes ≡ Ok events → ending (walk signer (seed_point seed) bytes).at ≡ Err fault → ⊥
+not_ended signer seed bytes events fault chained fails =
+    let wrong : Ok events ≡ Err fault =
     sym chained ∙ sym (starts signer seed bytes) ∙ ap (λ (end : Result (Unit {0}) ChainFault). end >>= (λ _. Ok (walk signer (seed_point seed) bytes).events)) fails in
     cc
 
 -- a front of the bytes has no fault where they are a whole chain
-no_fault : (signer : Signer) (seed bytes front rest : List ℕ) (events : List Parts) (told : ChainFault) → chain_events signer seed bytes ≡ Ok events → bytes ≡ front ++ rest
-    → (walk signer (seed_point seed) front).at ≡ failed told → ⊥
-no_fault signer seed bytes front rest events told chained cut fails =
+no_fault : (signer : Signer) (seed bytes front rest : List ℕ) (events : List Parts) (fault : ChainFault) → chain_events signer seed bytes ≡ Ok events → bytes ≡ front ++ rest
+    → (walk signer (seed_point seed) front).at ≡ failed fault → ⊥
+no_fault signer seed bytes front rest events fault chained cut fails =
     let joined : walk signer (seed_point seed) bytes ≡ walk_onto (walk signer (seed_point seed) front).events (walk signer (walk signer (seed_point seed) front).at rest) =
     ap (walk signer (seed_point seed)) cut ∙ walk_joined signer (seed_point seed) front rest in
-    let at : (walk signer (seed_point seed) bytes).at ≡ failed told =
+    let at : (walk signer (seed_point seed) bytes).at ≡ failed fault =
     ap (λ (w : Walk). w.at) joined ∙ ap (λ (p : Point). (walk signer p rest).at) fails in
-    not_ended signer seed bytes events told chained (ap ending at)
+    not_ended signer seed bytes events fault chained (ap ending at)
 
 complete_watch : (wanted : WatchWanted) (selected : Selected) (bytes : List ℕ) (events : List Parts) (all left : Option (List ℕ)) (answer : Ending) (before now : Option (List ℕ)) → length bytes ≤ most_input
     → chain_events (watch_signer wanted selected) wanted.seed bytes ≡ Ok events → all ≡ Some bytes → Watches (watch_signer wanted selected) wanted.seed all left answer before now → Completes answer
-complete_watch wanted selected bytes events all left answer before now short chained told watches = by_answer answer watches.ends
+complete_watch wanted selected bytes events all left answer before now short chained shown watches = by_answer answer watches.ends
   where
     signer : Signer
     signer = watch_signer wanted selected
 
     cut : (rest : List ℕ) × (left ≡ Some rest) × (bytes ≡ watches.taken ++ rest)
-    cut = rw told at watches.cut
+    cut = rw shown at watches.cut
 
     few : length watches.taken ≤ most_input
     few = omega (arith, short, ap length cut.2, length-append watches.taken cut.0)
@@ -138,7 +138,7 @@ complete_watch wanted selected bytes events all left answer before now short cha
     by_fault fault (inl fails) =
         no_fault signer wanted.seed bytes watches.taken cut.0 events fault chained cut.2 (subst (λ (b : List ℕ). (walk signer (seed_point wanted.seed) b).at ≡ failed fault) (take_all most_input watches.taken few) fails)
     by_fault fault (inr ends) =
-        let same : watches.taken ≡ bytes = taken_all bytes watches.taken all left told watches.cut ends.1.0 in
+        let same : watches.taken ≡ bytes = taken_all bytes watches.taken all left shown watches.cut ends.1.0 in
         not_ended signer wanted.seed bytes events fault chained
         (subst (λ (b : List ℕ). ending (walk signer (seed_point wanted.seed) b).at ≡ Err fault) (take_all most_input watches.taken few ∙ same) ends.0)
 
@@ -153,9 +153,9 @@ complete_watch wanted selected bytes events all left answer before now short cha
 
 complete_selected : (env : List (List ℕ × List ℕ)) (wanted : WatchWanted) (bytes : List ℕ) (files : FilesRead) (all left : Option (List ℕ)) (answer : Ending) (before now : Option (List ℕ)) → all ≡ Some bytes
     → WatchesSelected wanted (selection env wanted.profile.service_id files) all left answer before now → IsWholeInput env wanted bytes files → Completes answer
-complete_selected env wanted bytes files all left answer before now told watches input =
+complete_selected env wanted bytes files all left answer before now shown watches input =
     let chosen : selection env wanted.profile.service_id files ≡ Ok input.selected = ap (selection env wanted.profile.service_id) input.read ∙ ap or_refused input.settled in
-    complete_watch wanted input.selected bytes input.events all left answer before now input.short input.chained told
+    complete_watch wanted input.selected bytes input.events all left answer before now input.short input.chained shown
     (subst (λ (chosen : Result Selected Ending). WatchesSelected wanted chosen all left answer before now) chosen watches)
 
 -- how a watch went
@@ -165,8 +165,8 @@ has_watched gave env wanted all left end answer before now watches said =
     let input = said_input gave env wanted all left end answer before now watches said in
     record {
       input = input;
-      headline = λ bytes told is. done_selected env wanted bytes input.files all left before now told (subst (λ (end : Ending). WatchesSelected wanted (selection env wanted.profile.service_id input.files) all left end before now) is input.watches);
-      complete = λ bytes told whole. complete_selected env wanted bytes input.files all left answer before now told input.watches whole;
+      headline = λ bytes shown is. done_selected env wanted bytes input.files all left before now shown (subst (λ (end : Ending). WatchesSelected wanted (selection env wanted.profile.service_id input.files) all left end before now) is input.watches);
+      complete = λ bytes shown whole. complete_selected env wanted bytes input.files all left answer before now shown input.watches whole;
     }
 
 -- what the words behind `watch` asked for went so

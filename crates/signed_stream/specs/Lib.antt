@@ -6,6 +6,7 @@ pub mod ChunkJob
 pub mod ChunkWords
 pub mod Command
 pub mod Counts
+pub mod Effects
 pub mod EventLines
 pub mod Generate
 pub mod Generator

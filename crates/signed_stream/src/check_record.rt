@@ -1,9 +1,10 @@
 //! The command `check`.
-ghost use Rattle.std.specs.Prelude.{◌≡◌, ◌≤◌, ℕ, List, None, IsErrOf};
+ghost use Rattle.std.specs.Prelude.{◌≡◌, ℕ, List, None, IsErrOf};
 ghost use Rattle.smithy_core.specs.Outside.{CountsFault};
 ghost use Rattle.signed_stream.specs.Carriers.{GoesForRecord, IsAfterTexts};
 ghost use Rattle.signed_stream.specs.CheckRecord.{ChecksRecord, GoesForSeal, shown_events};
 ghost use Rattle.signed_stream.specs.Command.{check_record};
+ghost use Rattle.signed_stream.specs.Effects.{ReadsAndWrites};
 ghost use Rattle.signed_stream.specs.EventLines.{AreFramed};
 ghost use Rattle.signed_stream.specs.Sending.{Sends};
 ghost use Rattle.signed_stream.specs.Options.{check_wanted};
@@ -37,11 +38,8 @@ pub fn check_record<D: Disk, K: ByteSink>(
     ensures end { IsAfterTexts (ending_of result) }
     ensures planned { GoesForRecord (DiskGives D.answers D.faults (D.files disk.old) env.now disk.old disk.new) env.now (check_wanted words.entry) (record_parts draft)
         (ending_of result) (K.held out.old) (K.held out.new) }
-    ensures named { (path : List ℕ) → ending_of result ≡ could_not_read_file path
-        → NamesUnreadable (DiskGives D.answers D.faults (D.files disk.old) env.now disk.old disk.new) (check_record (check_wanted words.entry)) path }
-    ensures same { D.files disk.new ≡ D.files disk.old }
-    ensures writes { CountsFault (ending_of result ≡ output_fault) (K.faults out.old) (K.faults out.new) }
-    ensures count { D.faults disk.old ≤ D.faults disk.new }
+    ensures effects { ReadsAndWrites (NamesUnreadable (DiskGives D.answers D.faults (D.files disk.old) env.now disk.old disk.new) (check_record (check_wanted words.entry)))
+        (ending_of result) D.Disk disk.old disk.new (K.faults out.old) (K.faults out.new) }
 {
     let RecordDraft {
         texts,

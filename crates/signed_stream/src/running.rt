@@ -1,14 +1,15 @@
-ghost use Rattle.std.specs.Prelude.{◌≡◌, ◌≤◌, ℕ, List, length, map, option_map};
+ghost use Rattle.std.specs.Prelude.{◌≡◌, ◌≤◌, length, map, option_map};
 ghost use Rattle.std.specs.String.{string_bytes};
 ghost use Rattle.smithy_core.specs.Outside.{CountsFault, IsAtEnd, IsRestOf};
 ghost use Rattle.signed_stream.specs.Carriers.{GoesForBytes, GoesForInput, IsAfterInput};
 ghost use Rattle.signed_stream.specs.Command.{command};
+ghost use Rattle.signed_stream.specs.Effects.{ReadsAndWrites};
 ghost use Rattle.signed_stream.specs.Options.{input_commanded};
 ghost use Rattle.signed_stream.specs.Plan.{most_input};
 ghost use Rattle.smithy_core.specs.Given.{Gives};
 ghost use Rattle.signed_stream.specs.Running.{AsksDiskLast, EndsAsAsked, KeepsDisk, KeepsOutput, NamesUnreadable, AsksWatch, Unless, UnlessTask, UnlessCommand, Went, When, task, comes_late, reads_files, reads_input, takes_files, takes_input};
 ghost use Rattle.signed_stream.specs.Sources.{DiskGives};
-ghost use Rattle.signed_stream.specs.Status.{could_not_read_file, done, ending_of, output_fault, read_fault};
+ghost use Rattle.signed_stream.specs.Status.{done, ending_of, read_fault};
 
 use crate::check_record::check_record;
 use crate::command::{Command, InputCommand, read_words};
@@ -123,16 +124,14 @@ fn answer<S: ByteSource, D: Disk, C: Clock, K: ByteSink>(
     ensures planned { GoesForInput (DiskGives D.answers D.faults (D.files disk.old) env.now disk.old disk.new) (λ taken. Gives C.Clock clock.old taken clock.new) env.now
         (command (map string_bytes words.now)) (S.left input.old) (ending_of result) (K.held out.old) (K.held out.new) }
     ensures kept { KeepsOutput (comes_late (command (map string_bytes words.now))) (ending_of result) (K.held out.old) (K.held out.new) }
-    ensures named { (path : List ℕ) → ending_of result ≡ could_not_read_file path
-        → NamesUnreadable (DiskGives D.answers D.faults (D.files disk.old) env.now disk.old disk.new) (command (map string_bytes words.now)) path }
+    ensures effects { ReadsAndWrites (NamesUnreadable (DiskGives D.answers D.faults (D.files disk.old) env.now disk.old disk.new) (command (map string_bytes words.now)))
+        (ending_of result) D.Disk disk.old disk.new (K.faults out.old) (K.faults out.new) }
     ensures reads { CountsFault (ending_of result ≡ read_fault) (S.faults input.old) (S.faults input.new) }
-    ensures writes { CountsFault (ending_of result ≡ output_fault) (K.faults out.old) (K.faults out.new) }
     ensures untouched { UnlessCommand (command (map string_bytes words.now)) ((K.held out.new ≡ K.held out.old) × (K.faults out.new ≡ K.faults out.old)) }
     ensures unread { Unless (reads_input (command (map string_bytes words.now))) ((S.left input.new ≡ S.left input.old) × (S.faults input.new ≡ S.faults input.old)) }
-    ensures disk { KeepsDisk (ending_of result) disk.old disk.new × (D.files disk.new ≡ D.files disk.old) }
+    ensures disk { KeepsDisk (ending_of result) disk.old disk.new }
     ensures unasked { Unless (reads_files (command (map string_bytes words.now))) (disk.new ≡ disk.old) }
-    ensures outside { When (reads_input (command (map string_bytes words.now))) (ending_of result ≡ done → IsAtEnd (S.left input.new)) × IsRestOf (S.left input.old) (S.left input.new)
-        × (D.faults disk.old ≤ D.faults disk.new) }
+    ensures outside { When (reads_input (command (map string_bytes words.now))) (ending_of result ≡ done → IsAtEnd (S.left input.new)) × IsRestOf (S.left input.old) (S.left input.new) }
 {
     match read_words(alloc, words) {
         Ok(Command::Generate(words)) => show_generated(alloc, words, out),
@@ -159,14 +158,12 @@ fn answer_command<S: ByteSource, D: Disk, C: Clock, K: ByteSink>(
     ensures planned { GoesForInput (DiskGives D.answers D.faults (D.files disk.old) env.now disk.old disk.new) (λ taken. Gives C.Clock clock.old taken clock.new) env.now
         (input_commanded command.entry) (S.left input.old) (ending_of result) (K.held out.old) (K.held out.new) }
     ensures kept { KeepsOutput (comes_late (input_commanded command.entry)) (ending_of result) (K.held out.old) (K.held out.new) }
-    ensures named { (path : List ℕ) → ending_of result ≡ could_not_read_file path
-        → NamesUnreadable (DiskGives D.answers D.faults (D.files disk.old) env.now disk.old disk.new) (input_commanded command.entry) path }
+    ensures effects { ReadsAndWrites (NamesUnreadable (DiskGives D.answers D.faults (D.files disk.old) env.now disk.old disk.new) (input_commanded command.entry))
+        (ending_of result) D.Disk disk.old disk.new (K.faults out.old) (K.faults out.new) }
     ensures reads { CountsFault (ending_of result ≡ read_fault) (S.faults input.old) (S.faults input.new) }
-    ensures writes { CountsFault (ending_of result ≡ output_fault) (K.faults out.old) (K.faults out.new) }
-    ensures disk { KeepsDisk (ending_of result) disk.old disk.new × (D.files disk.new ≡ D.files disk.old) }
+    ensures disk { KeepsDisk (ending_of result) disk.old disk.new }
     ensures unasked { Unless (reads_files (input_commanded command.entry)) (disk.new ≡ disk.old) }
-    ensures outside { (ending_of result ≡ done → IsAtEnd (S.left input.new)) × IsRestOf (S.left input.old) (S.left input.new)
-        × (D.faults disk.old ≤ D.faults disk.new) }
+    ensures outside { (ending_of result ≡ done → IsAtEnd (S.left input.new)) × IsRestOf (S.left input.old) (S.left input.new) }
 {
     match read_all(alloc, input, MOST_INPUT) {
         Ok(bytes) => answer_bytes(alloc, command, bytes, env, disk, clock, out),
@@ -192,13 +189,10 @@ fn answer_bytes<D: Disk, C: Clock, K: ByteSink>(
     ensures end { IsAfterInput (ending_of result) }
     ensures planned { GoesForBytes (DiskGives D.answers D.faults (D.files disk.old) env.now disk.old disk.new) (λ taken. Gives C.Clock clock.old taken clock.new) env.now
         (input_commanded command.entry) bytes.items (ending_of result) (K.held out.old) (K.held out.new) }
-    ensures named { (path : List ℕ) → ending_of result ≡ could_not_read_file path
-        → NamesUnreadable (DiskGives D.answers D.faults (D.files disk.old) env.now disk.old disk.new) (input_commanded command.entry) path }
+    ensures effects { ReadsAndWrites (NamesUnreadable (DiskGives D.answers D.faults (D.files disk.old) env.now disk.old disk.new) (input_commanded command.entry))
+        (ending_of result) D.Disk disk.old disk.new (K.faults out.old) (K.faults out.new) }
     ensures disk { KeepsDisk (ending_of result) disk.old disk.new }
-    ensures same { D.files disk.new ≡ D.files disk.old }
     ensures unasked { Unless (reads_files (input_commanded command.entry)) (disk.new ≡ disk.old) }
-    ensures writes { CountsFault (ending_of result ≡ output_fault) (K.faults out.old) (K.faults out.new) }
-    ensures count { D.faults disk.old ≤ D.faults disk.new }
 {
     match command {
         InputCommand::Stream(words) => match take_job(alloc, bytes) {

@@ -1,7 +1,8 @@
-ghost use Rattle.std.specs.Prelude.{◌≡◌, ◌≤◌, ℕ, List, None, IsErrOf};
+ghost use Rattle.std.specs.Prelude.{None, IsErrOf};
 ghost use Rattle.smithy_core.specs.Outside.{CountsFault};
 ghost use Rattle.signed_stream.specs.Carriers.{GoesForTexts, IsAfterTexts};
 ghost use Rattle.signed_stream.specs.Command.{show_settings};
+ghost use Rattle.signed_stream.specs.Effects.{ReadsAndWrites};
 ghost use Rattle.signed_stream.specs.Sending.{Sends};
 ghost use Rattle.signed_stream.specs.ProfileOptions.{profile_wanted};
 ghost use Rattle.job_text.specs.ProfileTexts.{texts_of};
@@ -9,7 +10,7 @@ ghost use Rattle.signed_stream.specs.Running.{NamesUnreadable};
 ghost use Rattle.signed_stream.specs.Settings.{selected_in};
 ghost use Rattle.signed_stream.specs.Shown.{shown_settings};
 ghost use Rattle.signed_stream.specs.Sources.{DiskGives};
-ghost use Rattle.signed_stream.specs.Status.{could_not_read_file, ending_of, output_fault};
+ghost use Rattle.signed_stream.specs.Status.{ending_of};
 
 use crate::chain::write_text;
 use crate::command::ProfileOptions;
@@ -33,11 +34,8 @@ pub fn show_settings<D: Disk, K: ByteSink>(
     ensures end { IsAfterTexts (ending_of result) }
     ensures planned { GoesForTexts (DiskGives D.answers D.faults (D.files disk.old) env.now disk.old disk.new) env.now (profile_wanted options.entry) (texts_of texts)
         (ending_of result) (K.held out.old) (K.held out.new) }
-    ensures named { (path : List ℕ) → ending_of result ≡ could_not_read_file path
-        → NamesUnreadable (DiskGives D.answers D.faults (D.files disk.old) env.now disk.old disk.new) (show_settings (profile_wanted options.entry)) path }
-    ensures same { D.files disk.new ≡ D.files disk.old }
-    ensures writes { CountsFault (ending_of result ≡ output_fault) (K.faults out.old) (K.faults out.new) }
-    ensures count { D.faults disk.old ≤ D.faults disk.new }
+    ensures effects { ReadsAndWrites (NamesUnreadable (DiskGives D.answers D.faults (D.files disk.old) env.now disk.old disk.new) (show_settings (profile_wanted options.entry)))
+        (ending_of result) D.Disk disk.old disk.new (K.faults out.old) (K.faults out.new) }
 {
     match select(alloc, env, disk, &options, texts) {
         Ok(settings) => status_of(write_settings(alloc, &settings, out)),

@@ -93,14 +93,9 @@ pub fn select<D: Disk>(
     Ok(read_settings(alloc, &source, env, options.service_id)?)
 }
 
-/// The texts of the files that the options name, and then those of the input; where there is none of both, of the two
-/// default files.
-///
-/// # Errors
-///
-/// [`EnvConfigFileLoadError::CouldNotReadFile`] with the path of the first file that is named and is absent, or whose
-/// read failed; or one that says that memory ran out.
-pub fn load_source<D: Disk>(
+// The texts of the files that the options name, and then those of the input; where there is none of both, of the two
+// default files.
+fn load_source<D: Disk>(
     alloc: Global,
     env: &Env,
     disk: &mut D,

@@ -5,7 +5,7 @@ ghost use Rattle.signed_stream.specs.Status.{ending_of};
 use crate::settings::SettingsFault;
 use crate::sources::SelectFault;
 use chain_watch::ChainFault;
-use env_config::{EnvConfigFileLoadError, EnvConfigParseError};
+use env_config::EnvConfigParseError;
 use sigv4::ValuePlace;
 use smithy_core::{Mem, Moment};
 use std::alloc::AllocError;
@@ -211,17 +211,6 @@ impl From<ChainFault> for Status {
             ChainFault::NoMemory => Status::NoMemory,
             fault => Status::CheckFailed(CheckFault::Chain(fault)),
         }
-    }
-}
-
-impl From<EnvConfigFileLoadError> for Status {
-    ghost use Rattle.std.specs.Prelude.{◌≡◌};
-    ghost use Rattle.signed_stream.specs.Status.{ending_of, load_ending};
-
-    ghost from_gives = { λ fault status. ending_of status ≡ load_ending fault };
-
-    fn from(fault: EnvConfigFileLoadError) -> Status {
-        Status::from(SelectFault::from(fault))
     }
 }
 

@@ -145,8 +145,8 @@ pub fn sign_and_send<C: Clock, K: ByteSink>(
     stream_selected(alloc, settings, stream, clock, sink, moments)
 }
 
-// Signs the request and streams the events under what was selected.
-fn stream_selected<C: Clock, K: ByteSink>(
+/// Signs the request and streams the events under what was selected.
+pub fn stream_selected<C: Clock, K: ByteSink>(
     alloc: Global,
     settings: Settings,
     stream: StreamedRequest<'_>,

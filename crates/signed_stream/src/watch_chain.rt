@@ -1,13 +1,14 @@
 //! The command `watch`.
-ghost use Rattle.std.specs.Prelude.{◌≡◌, ◌≤◌, ℕ, List, [], IfOk, OnOk, map};
+ghost use Rattle.std.specs.Prelude.{◌≡◌, [], IfOk, OnOk, map};
 ghost use Rattle.std.specs.String.{string_bytes};
 ghost use Rattle.smithy_core.specs.Outside.{CountsFault};
 ghost use Rattle.chain_watch.specs.declared.chain_fault.ChainFault.TheVariants.{NoMemory};
 ghost use Rattle.signed_stream.specs.Counts.{CountsStep};
+ghost use Rattle.signed_stream.specs.Effects.{ReadsAndWrites};
 ghost use Rattle.signed_stream.specs.Plan.{unreadable};
 ghost use Rattle.signed_stream.specs.Settings.{selected_in};
 ghost use Rattle.signed_stream.specs.Sources.{DiskGives};
-ghost use Rattle.signed_stream.specs.Status.{could_not_read_file, ending_of, output_fault, read_fault};
+ghost use Rattle.signed_stream.specs.Status.{ending_of, output_fault, read_fault};
 ghost use Rattle.signed_stream.specs.WatchChain.{EndsInput, IsFit, IsIdle, IsUnfed, NamesUnread, ReadsInput, ShowsWaiting, TakesNext, UnlessRead, WalksWaiting, Watches, WatchesInput, WatchesWords, watch_signer};
 ghost use Rattle.signed_stream.specs.WatchWords.{read_after_watch, watch_wanted};
 
@@ -39,13 +40,10 @@ pub fn watch<S: ByteSource, D: Disk, K: ByteSink>(
 ) -> Status
     ensures watches { WatchesWords (DiskGives D.answers D.faults (D.files disk.old) env.now disk.old disk.new) env.now (read_after_watch (map string_bytes words.now))
         (S.left input.old) (S.left input.new) (ending_of result) (K.held out.old) (K.held out.new) }
-    ensures named { (path : List ℕ) → ending_of result ≡ could_not_read_file path
-        → NamesUnread (DiskGives D.answers D.faults (D.files disk.old) env.now disk.old disk.new) (read_after_watch (map string_bytes words.now)) path }
-    ensures same { D.files disk.new ≡ D.files disk.old }
     ensures unasked { UnlessRead (read_after_watch (map string_bytes words.now)) (disk.new ≡ disk.old) }
     ensures reads { CountsFault (ending_of result ≡ read_fault) (S.faults input.old) (S.faults input.new) }
-    ensures writes { CountsFault (ending_of result ≡ output_fault) (K.faults out.old) (K.faults out.new) }
-    ensures count { D.faults disk.old ≤ D.faults disk.new }
+    ensures effects { ReadsAndWrites (NamesUnread (DiskGives D.answers D.faults (D.files disk.old) env.now disk.old disk.new) (read_after_watch (map string_bytes words.now)))
+        (ending_of result) D.Disk disk.old disk.new (K.faults out.old) (K.faults out.new) }
 {
     match read_watch(alloc, words) {
         Ok(words) => watch_wanted(alloc, words, env, input, disk, out),
@@ -65,12 +63,9 @@ fn watch_wanted<S: ByteSource, D: Disk, K: ByteSink>(
 ) -> Status
     ensures watches { WatchesInput (DiskGives D.answers D.faults (D.files disk.old) env.now disk.old disk.new) env.now (watch_wanted words.entry)
         (S.left input.old) (S.left input.new) (ending_of result) (K.held out.old) (K.held out.new) }
-    ensures named { (path : List ℕ) → ending_of result ≡ could_not_read_file path
-        → DiskGives D.answers D.faults (D.files disk.old) env.now disk.old disk.new (watch_wanted words.entry).profile.files (unreadable path) }
-    ensures same { D.files disk.new ≡ D.files disk.old }
     ensures reads { CountsFault (ending_of result ≡ read_fault) (S.faults input.old) (S.faults input.new) }
-    ensures writes { CountsFault (ending_of result ≡ output_fault) (K.faults out.old) (K.faults out.new) }
-    ensures count { D.faults disk.old ≤ D.faults disk.new }
+    ensures effects { ReadsAndWrites (λ path. DiskGives D.answers D.faults (D.files disk.old) env.now disk.old disk.new (watch_wanted words.entry).profile.files (unreadable path))
+        (ending_of result) D.Disk disk.old disk.new (K.faults out.old) (K.faults out.new) }
 {
     match select(alloc, env, disk, &words.profile, ProfileTexts::new()) {
         Ok(settings) => watch_selected(alloc, &words, &settings, input, out),

@@ -1,4 +1,3 @@
-use Rattle.std.proofs.Common.{sym, ◌∙◌}
 use Rattle.signed_stream.specs.Options.{check_wanted}
 use Rattle.job_text.specs.Record.{record_parts}
 use Rattle.signed_stream.specs.Settings.{selected_in}
@@ -6,7 +5,7 @@ use Rattle.signed_stream.specs.Sources.{DiskGives}
 use Rattle.signed_stream.specs.Selecting.{selection_ending}
 use Rattle.signed_stream.specs.Status.{ending_of}
 use Rattle.signed_stream.proofs.FitLemmas.{record_sealed, record_unselected}
-use Rattle.signed_stream.proofs.SourceLemmas.{selects_after_texts, selects_unwritten}
+use Rattle.signed_stream.proofs.SourceLemmas.{selects_after_texts, selects_no_more}
 use Rattle.signed_stream.proofs.check_record.check_record.Goals as goal
 
 pub returns-in-Ok-clause-planned : goal.returns-in-Ok-clause-planned
@@ -29,8 +28,5 @@ returns-clause-planned g c =
 pub returns-clause-end : goal.returns-clause-end
 returns-clause-end g c = rw c.from.ensures (selects_after_texts c.in-Err.fault)
 
-pub returns-clause-named : goal.returns-clause-named
-returns-clause-named g c = λ path is. c.in-Err.ensures.named path (sym c.from.ensures ∙ is)
-
-pub returns-clause-writes : goal.returns-clause-writes
-returns-clause-writes g c = selects_unwritten c.in-Err.fault (ending_of c.from.result) _ c.from.ensures
+pub returns-clause-effects : goal.returns-clause-effects
+returns-clause-effects g c = selects_no_more g.D.Disk _ c.in-Err.fault (ending_of c.from.result) _ _ _ c.from.ensures c.in-Err.ensures.named c.select.ensures.same c.select.ensures.count

@@ -21,10 +21,10 @@ returns-in-Some-clause-headline g c =
       went = went_watching gave c.args.env.now (read_after_watch (map string_bytes c.in-Some.rest.now)) (g.S.ByteSource.left c.args.input.now) (g.S.ByteSource.left c.watch-status.new.input)
           (ending_of c.watch-status.result) (ending_of c.say.result) (g.K.ByteSink.held c.args.out.now) (g.K.ByteSink.held c.watch-status.new.out) watch.watches said;
       moments = given_none g.C.Clock c.args.clock.now;
-      named = λ path is. watch.named path (said_is _ _ _ said is (λ e. cc));
+      named = λ path is. watch.effects.named path (said_is _ _ _ said is (λ e. cc));
       said = c.say.ensures.said;
       reads = said_reads _ _ _ _ said watch.reads;
-      writes = said_writes _ _ _ _ said watch.writes;
+      writes = said_writes _ _ _ _ said watch.effects.writes;
     })
 
 pub returns-in-None-clause-headline : goal.returns-in-None-clause-headline
@@ -46,10 +46,10 @@ returns-in-None-clause-headline g c =
         moments = answer.planned.1;
         planned = runs;
         kept = said_keeps _ _ _ _ _ answer.kept said;
-        named = λ path is. answer.named path (said_is _ _ _ said is (λ e. cc));
+        named = λ path is. answer.effects.named path (said_is _ _ _ said is (λ e. cc));
         said = c.say-in-None.ensures.said;
         reads = said_reads _ _ _ _ said answer.reads;
-        writes = said_writes _ _ _ _ said answer.writes;
+        writes = said_writes _ _ _ _ said answer.effects.writes;
       },
     )
 
@@ -67,8 +67,8 @@ returns-in-Some-clause-outside g c =
       rest_watched gave c.args.env.now read (g.S.ByteSource.left c.args.input.now) (g.S.ByteSource.left c.watch-status.new.input) (ending_of c.watch-status.result)
           (g.K.ByteSink.held c.args.out.now) (g.K.ByteSink.held c.watch-status.new.out) watch.watches,
       watch.reads.grew,
-      watch.count,
-      watch.writes.grew,
+      watch.effects.count,
+      watch.effects.writes.grew,
       c.say.ensures.count,
     )
 
@@ -76,7 +76,7 @@ pub returns-in-None-clause-outside : goal.returns-in-None-clause-outside
 returns-in-None-clause-outside g c =
     let asked = c.in-None.ensures in
     let answer = c.answer-status.ensures in
-    rw asked (said_when _ _ _ _ answer.outside.0 c.say-in-None.ensures.answer, answer.outside.1, answer.reads.grew, answer.outside.2, answer.writes.grew, c.say-in-None.ensures.count)
+    rw asked (said_when _ _ _ _ answer.outside.0 c.say-in-None.ensures.answer, answer.outside.1, answer.reads.grew, answer.effects.count, answer.effects.writes.grew, c.say-in-None.ensures.count)
 
 pub returns-in-Some-clause-untouched : goal.returns-in-Some-clause-untouched
 returns-in-Some-clause-untouched g c =
@@ -85,7 +85,7 @@ returns-in-Some-clause-untouched g c =
     let gave = DiskGives g.D.Disk.answers g.D.Disk.faults (g.D.Disk.files c.args.disk.now) c.args.env.now c.args.disk.now c.watch-status.new.disk in
     rw asked
     (unwritten_watched gave c.args.env.now (read_after_watch (map string_bytes c.in-Some.rest.now)) (g.S.ByteSource.left c.args.input.now) (g.S.ByteSource.left c.watch-status.new.input) (ending_of c.watch-status.result)
-    (g.K.ByteSink.held c.args.out.now) (g.K.ByteSink.held c.watch-status.new.out) _ _ watch.watches watch.writes)
+    (g.K.ByteSink.held c.args.out.now) (g.K.ByteSink.held c.watch-status.new.out) _ _ watch.watches watch.effects.writes)
 
 pub returns-in-Some-clause-unread : goal.returns-in-Some-clause-unread
 returns-in-Some-clause-unread g c =
@@ -97,7 +97,7 @@ returns-in-Some-clause-unread g c =
     (g.K.ByteSink.held c.args.out.now) (g.K.ByteSink.held c.watch-status.new.out) _ _ watch.watches watch.reads)
 
 pub returns-in-Some-clause-disk : goal.returns-in-Some-clause-disk
-returns-in-Some-clause-disk g c = let asked = c.in-Some.ensures in rw asked (tt, c.watch-status.ensures.same)
+returns-in-Some-clause-disk g c = let asked = c.in-Some.ensures in rw asked (tt, c.watch-status.ensures.effects.same)
 
 pub returns-in-Some-clause-unasked : goal.returns-in-Some-clause-unasked
 returns-in-Some-clause-unasked g c = let asked = c.in-Some.ensures in rw asked (unasked_watched (read_after_watch (map string_bytes c.in-Some.rest.now)) _ c.watch-status.ensures.unasked)
@@ -111,8 +111,8 @@ returns-in-None-clause-unread g c = let asked = c.in-None.ensures in rw asked c.
 pub returns-in-None-clause-disk : goal.returns-in-None-clause-disk
 returns-in-None-clause-disk g c =
     let asked = c.in-None.ensures in
-    let disk = c.answer-status.ensures.disk in
-    rw asked (said_disk _ _ _ _ disk.0 c.say-in-None.ensures.answer, disk.1)
+    let answer = c.answer-status.ensures in
+    rw asked (said_disk _ _ _ _ answer.disk c.say-in-None.ensures.answer, answer.effects.same)
 
 pub returns-in-None-clause-unasked : goal.returns-in-None-clause-unasked
 returns-in-None-clause-unasked g c = let asked = c.in-None.ensures in rw asked c.answer-status.ensures.unasked

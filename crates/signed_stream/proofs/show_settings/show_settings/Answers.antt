@@ -1,12 +1,11 @@
-use Rattle.std.proofs.Common.{sym, ◌∙◌}
 use Rattle.signed_stream.specs.ProfileOptions.{profile_wanted}
 use Rattle.job_text.specs.ProfileTexts.{texts_of}
 use Rattle.signed_stream.specs.Settings.{selected_in}
 use Rattle.signed_stream.specs.Sources.{DiskGives}
 use Rattle.signed_stream.specs.Selecting.{selection_ending}
 use Rattle.signed_stream.specs.Status.{ending_of}
-use Rattle.signed_stream.proofs.FitLemmas.{ended_after_texts, ended_counts, ended_unnamed, texts_shown, texts_unselected}
-use Rattle.signed_stream.proofs.SourceLemmas.{selects_after_texts, selects_unwritten}
+use Rattle.signed_stream.proofs.FitLemmas.{ended_after_texts, ended_writes, texts_shown, texts_unselected}
+use Rattle.signed_stream.proofs.SourceLemmas.{selects_after_texts, selects_no_more}
 use Rattle.signed_stream.proofs.show_settings.show_settings.Goals as goal
 
 pub returns-in-Ok-clause-planned : goal.returns-in-Ok-clause-planned
@@ -30,14 +29,8 @@ returns-clause-end g c = rw c.from.ensures (selects_after_texts c.in-Err.fault)
 pub returns-in-Ok-clause-end : goal.returns-in-Ok-clause-end
 returns-in-Ok-clause-end g c = rw c.status_of.ensures (ended_after_texts c.write_settings.result)
 
-pub returns-in-Ok-clause-named : goal.returns-in-Ok-clause-named
-returns-in-Ok-clause-named g c = λ path is. absurd (ended_unnamed c.write_settings.result path (sym c.status_of.ensures ∙ is))
+pub returns-in-Ok-clause-effects : goal.returns-in-Ok-clause-effects
+returns-in-Ok-clause-effects g c = ended_writes g.D.Disk _ c.write_settings.result _ _ _ _ _ c.status_of.ensures c.write_settings.ensures.counts c.select.ensures.same c.select.ensures.count
 
-pub returns-in-Ok-clause-writes : goal.returns-in-Ok-clause-writes
-returns-in-Ok-clause-writes g c = ended_counts c.write_settings.result _ _ _ c.status_of.ensures c.write_settings.ensures.counts
-
-pub returns-clause-named : goal.returns-clause-named
-returns-clause-named g c = λ path is. c.in-Err.ensures.named path (sym c.from.ensures ∙ is)
-
-pub returns-clause-writes : goal.returns-clause-writes
-returns-clause-writes g c = selects_unwritten c.in-Err.fault (ending_of c.from.result) _ c.from.ensures
+pub returns-clause-effects : goal.returns-clause-effects
+returns-clause-effects g c = selects_no_more g.D.Disk _ c.in-Err.fault (ending_of c.from.result) _ _ _ c.from.ensures c.in-Err.ensures.named c.select.ensures.same c.select.ensures.count

@@ -29,7 +29,7 @@ pub fault_of-requires : goal.fault_of-requires
 unfolding chosen
 fault_of-requires c =
     let asked = record (stream_wanted c.args.options.now Raw) { signing = c.in_ok-try_clone.field-0 } in
-    let told = refused_job _ _ _ _ asked c.args.region.now c.args.first _
+    let refuses = refused_job _ _ _ _ asked c.args.region.now c.args.first _
     (record {
       chosen_is = rw (c.new.ensures, c.in_ok-from_str.ensures.ok, c.new-2.ensures, c.in_ok-clone.ensures.cases) refl;
       before = rw (right_identity c.args.identity.now c.requires) refl;
@@ -39,13 +39,13 @@ fault_of-requires c =
     let given : GivesName (option_map string_bytes c.in_ok-asked.asked) answer = search rules in
     rw c.in_ok-asked.ensures at given)
     c.sign_http_request.new.request _ c.in-Err.ensures.signs in
-    told.0
+    refuses.0
 
 pub returns-in-Err : goal.returns-in-Err
 unfolding chosen
 returns-in-Err c = λ form.
     let asked = record (stream_wanted c.args.options.now form) { signing = c.in_ok-try_clone.field-0 } in
-    let told = refused_job _ _ _ _ asked c.args.region.now c.args.first _
+    let refuses = refused_job _ _ _ _ asked c.args.region.now c.args.first _
     (record {
       chosen_is = rw (c.new.ensures, c.in_ok-from_str.ensures.ok, c.new-2.ensures, c.in_ok-clone.ensures.cases) refl;
       before = rw (right_identity c.args.identity.now c.requires) refl;
@@ -57,4 +57,4 @@ returns-in-Err c = λ form.
     c.sign_http_request.new.request _ c.in-Err.ensures.signs in
     rw c.fault_of.ensures
     (unsigned_as_asked c.args.request c.args.request c.args.identity.now c.args.region.now (stream_wanted c.args.options.now form) c.args.first c.in_ok-try_clone.field-0 c.in_ok-try_clone.ensures
-    refl refl refl refl _ told.1)
+    refl refl refl refl _ refuses.1)

@@ -57,9 +57,9 @@ returns-in_err-signed-clause-counts g c =
     let wanted = wanted_for c.args.stream in
     record {
       rose = λ is.
-          let told : c.in_err-signed.field-0.0 ≡ SinkFault = (let first = exit.1 in let second = exit.2 in cc) in
+          let failed : c.in_err-signed.field-0.0 ≡ SinkFault = (let first = exit.1 in let second = exit.2 in cc) in
           absurd (never_failed (string_bytes c.args.stream.request.target) (request_moment wanted c.in_ok-first.first)
-          (identity_case c.args.stream.request (Credentials c.args.settings.credentials) c.as_str-region.result.now wanted c.in_ok-first.first) c.in_err-signed.field-0.0 (c.in_err-signed.ensures c.args.stream.form) told);
+          (identity_case c.args.stream.request (Credentials c.args.settings.credentials) c.as_str-region.result.now wanted c.in_ok-first.first) c.in_err-signed.field-0.0 (c.in_err-signed.ensures c.args.stream.form) failed);
       stayed = λ other. refl;
       grew = omega arith;
     }
