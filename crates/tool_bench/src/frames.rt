@@ -10,7 +10,7 @@ use std::alloc::Global;
 const PAYLOAD: usize = 1_008;
 
 /// So many frames of 1,024 bytes are 128 pieces of 1,400 bytes.
-const FRAMES: u32 = 175;
+pub const FRAMES: u32 = 175;
 
 const PIECE: usize = 1_400;
 

@@ -3,10 +3,10 @@ ghost use Rattle.std.specs.Prelude.{IfOk};
 ghost use Rattle.smithy_core.specs.FrameSource.{AreShort};
 
 use crate::digest::Digest;
-use crate::frames::{pieces_of_stream, with_message};
+use crate::frames::{FRAMES, pieces_of_stream, with_message};
 use anyhow::bail;
 use bytes::Bytes;
-use event_io::{Receiver, receive_all};
+use event_io::{Received, Receiver};
 use eventstream::IdentityUnmarshaller;
 use smithy_core::{CalmFrames, FramePart};
 use std::alloc::Global;
@@ -24,14 +24,17 @@ pub fn received(alloc: Global, count: u32) -> anyhow::Result<Digest> {
     Ok(digest)
 }
 
-// The digest of the messages more that a source gives.
+// The digest of the messages more that a source gives, each of which is dropped before the next one is taken.
 fn with_stream(alloc: Global, digest: Digest, source: CalmFrames) -> anyhow::Result<Digest> {
     let mut receiver = Receiver::new(alloc, IdentityUnmarshaller, source);
-    let mut messages = Vec::new(alloc);
-    if receive_all(alloc, &mut receiver, usize::MAX, &mut messages).is_err() {
-        bail!("the stream could not be received");
+    let mut digest = digest;
+    for _ in 0..FRAMES {
+        match receiver.recv() {
+            Ok(Received::Event(message)) => digest = with_message(digest, &message),
+            _ => bail!("the stream could not be received"),
+        }
     }
-    Ok(messages.iter().fold(digest, with_message))
+    Ok(digest)
 }
 
 /// The pieces as the frames of a source.
