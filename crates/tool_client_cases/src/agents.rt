@@ -1,100 +1,70 @@
-use crate::metadata::{api_of, build_of, build_with};
-use crate::metrics::metric_named;
-use crate::parts::{additional_of, app_of, config_of, feature_of, framework_of};
-use crate::texts::{env_of, text};
-use aws_intercept::{
-    AdditionalMetadata, AwsUserAgent, BuildMetadata, BusinessMetric, ConfigMetadata,
-    FeatureMetadata, FrameworkMetadata,
-};
-use smithy_core::{AppName, Env, Mem};
+use crate::metadata::{api_of, build_of};
+use crate::parts::{Part, PartFault, additional_of, part_of};
+use crate::texts::{debugged, env_of, rest, word};
+use aws_intercept::{AwsUserAgent, OsFamily};
+use smithy_core::Mem;
 use std::alloc::Global;
-use tool_case_lines::{halves, unknown};
+use tool_case_lines::halves;
 
-// The text of an agent that was given parts: of `with` by the calls that hand it on, of `add` by those that lend it on; and of
-// `copy` that of a copy of one that was handed on.
+// The headers of an agent that was given parts: of `with` by the calls that hand it on, of `add` by those that lend it on; and of
+// `copy` those of a copy of one that was handed on.
 pub fn answer(alloc: Global, call: &str, words: &[&str]) -> Mem<String> {
-    match (call, words) {
-        ("with", [base, parts @ ..]) => told(alloc, &agent_with(alloc, base, parts)?),
-        ("copy", [base, parts @ ..]) => told(alloc, &agent_with(alloc, base, parts)?.try_clone()?),
-        ("add", [base, parts @ ..]) => {
-            let mut agent = agent_of(alloc, base)?;
-            add_parts(alloc, &mut agent, parts)?;
-            told(alloc, &agent)
-        }
-        _ => unknown(alloc),
+    match agent_with(alloc, call, word(words, 0), rest(words, 1)) {
+        Ok(agent) => headers_text(alloc, &agent),
+        Err(fault) => debugged(alloc, Ok(fault)),
     }
 }
 
-fn add_parts(alloc: Global, agent: &mut AwsUserAgent, parts: &[&str]) -> Mem<()> {
-    for part in parts {
-        if let Some(part) = part_of(alloc, part) {
-            add_part(agent, part)?;
-        }
-    }
-    Ok(())
-}
-
-// What both headers tell.
-fn told(alloc: Global, agent: &AwsUserAgent) -> Mem<String> {
+// Both headers, or one where they are the same.
+fn headers_text(alloc: Global, agent: &AwsUserAgent) -> Mem<String> {
     let header = agent.ua_header()?;
     let aws_header = agent.aws_ua_header()?;
-    both(alloc, header.as_str(), aws_header.as_str())
-}
-
-// One header, where both are the same.
-fn both(alloc: Global, header: &str, aws_header: &str) -> Mem<String> {
     if header == aws_header {
-        return text(alloc, header);
+        return Ok(header);
     }
     format!(in alloc; "{header} | {aws_header}")
 }
 
-// The agent for tests, or the one of the build that tells `build MORE`, or of the build in an environment.
+// The agent for tests, or the one of the build that says `build MORE`, or of the build in an environment.
 pub fn agent_of(alloc: Global, base: &str) -> Mem<AwsUserAgent> {
-    match halves(base) {
-        ("build", more) => in_environment(alloc, &Env::new(alloc), build_with(alloc, more)),
-        ("tests", _) => AwsUserAgent::for_tests(alloc),
-        _ => in_environment(alloc, &env_of(alloc, base)?, build_of(alloc)),
+    let (kind, more) = halves(base);
+    match kind {
+        "tests" => AwsUserAgent::for_tests(alloc),
+        "build" => in_environment(alloc, "", Some(more)),
+        _ => in_environment(alloc, base, None),
     }
 }
 
-fn in_environment(alloc: Global, env: &Env, build: Mem<BuildMetadata>) -> Mem<AwsUserAgent> {
+fn in_environment(alloc: Global, variables: &str, more: Option<&str>) -> Mem<AwsUserAgent> {
+    let env = env_of(alloc, variables)?;
     let api = api_of(alloc, "dynamodb", "123")?;
-    AwsUserAgent::new_from_environment(alloc, env, api, build?)
+    let mut build = build_of(alloc, OsFamily::Macos)?;
+    if let Some(more) = more {
+        build.extra = additional_of(alloc, more).ok();
+    }
+    AwsUserAgent::new_from_environment(alloc, &env, api, build)
 }
 
-fn agent_with(alloc: Global, base: &str, parts: &[&str]) -> Mem<AwsUserAgent> {
+fn agent_with(
+    alloc: Global,
+    call: &str,
+    base: &str,
+    parts: &[&str],
+) -> Result<AwsUserAgent, PartFault> {
     let mut agent = agent_of(alloc, base)?;
     for part in parts {
-        if let Some(part) = part_of(alloc, part) {
+        let (kind, value) = halves(part);
+        let part = part_of(alloc, kind, &[value])?;
+        if call == "add" {
+            add_part(&mut agent, part)?;
+        } else {
             agent = with_part(agent, part)?;
         }
     }
-    Ok(agent)
-}
-
-// What an agent is given.
-#[derive(Drop)]
-enum Part {
-    Metric(BusinessMetric),
-    Framework(FrameworkMetadata),
-    Value(AdditionalMetadata),
-    Feature(FeatureMetadata),
-    Config(ConfigMetadata),
-    App(AppName),
-}
-
-// The part `KIND VALUE`, where that is one.
-fn part_of(alloc: Global, word: &str) -> Option<Part> {
-    match halves(word) {
-        ("metric", name) => Some(Part::Metric(metric_named(alloc, name).ok()??)),
-        ("framework", word) => Some(Part::Framework(framework_of(alloc, word).ok()?)),
-        ("value", value) => Some(Part::Value(additional_of(alloc, value).ok()?)),
-        ("feature", word) => Some(Part::Feature(feature_of(alloc, word).ok()?)),
-        ("config", word) => Some(Part::Config(config_of(alloc, word).ok()?)),
-        ("app", name) => Some(Part::App(app_of(alloc, name).ok()?)),
-        _ => None,
+    if call == "copy" {
+        agent = agent.try_clone()?;
     }
+    Ok(agent)
 }
 
 fn with_part(agent: AwsUserAgent, part: Part) -> Mem<AwsUserAgent> {

@@ -1,11 +1,12 @@
 use crate::agents::agent_of;
 use crate::metadata::api_of;
-use crate::metrics::{aws_named, credentials_named, smithy_named};
+use crate::metrics::{AWS_FEATURES, CREDENTIAL_FEATURES, SMITHY_FEATURES};
 use crate::parts::{app_of, framework_of};
-use crate::texts::text;
-use aws_intercept::{ApiMetadata, ConfigBag, DisableClockSkewCorrection, InvocationId};
+use crate::texts::{named, text};
+use aws_intercept::{ConfigBag, DisableClockSkewCorrection, InvocationId};
 use smithy_core::{DateTime, Mem, Moment, RetryConfig, TimeoutConfig};
 use std::alloc::Global;
+use std::fmt::Debug;
 use tool_case_lines::{halves, number};
 
 // Puts the entries `KIND VALUE` into the bag, those of a list in their order.
@@ -25,19 +26,22 @@ pub fn put(alloc: Global, bag: &mut ConfigBag, entry: &str) -> Mem<()> {
         "skew" => bag.attempt_skew = Some(number(value)),
         "sent" => bag.time_sent = Some(moment_of(value)),
         "disable" => bag.disable_skew = Some(DisableClockSkewCorrection::from(value == "true")),
-        _ => return put_told(alloc, bag, kind, value),
+        _ => return put_owned(alloc, bag, kind, value),
     }
     Ok(())
 }
 
 // Puts an entry of which the user agent or an id is made.
-fn put_told(alloc: Global, bag: &mut ConfigBag, kind: &str, value: &str) -> Mem<()> {
+fn put_owned(alloc: Global, bag: &mut ConfigBag, kind: &str, value: &str) -> Mem<()> {
     match kind {
-        "api" => bag.api_metadata = api_named(alloc, value),
-        "agent" => bag.user_agent = agent_of(alloc, value).ok(),
+        "api" => {
+            let (service, version) = halves(value);
+            bag.api_metadata = Some(api_of(alloc, service, version)?);
+        }
+        "agent" => bag.user_agent = Some(agent_of(alloc, value)?),
         "app" => bag.app_name = app_of(alloc, value).ok(),
-        "id" => bag.invocation_id = id_of(alloc, value),
-        "connector" => bag.connector = text(alloc, value).ok(),
+        "id" => bag.invocation_id = InvocationId::new(text(alloc, value)?).ok(),
+        "connector" => bag.connector = Some(text(alloc, value)?),
         _ => return add(alloc, bag, kind, value),
     }
     Ok(())
@@ -50,34 +54,31 @@ fn add(alloc: Global, bag: &mut ConfigBag, kind: &str, value: &str) -> Mem<()> {
             if let Ok(framework) = framework_of(alloc, value) {
                 bag.frameworks.push(framework)?;
             }
+            Ok(())
         }
-        "smithy" => {
-            if let Some(feature) = smithy_named(alloc, value)? {
-                bag.smithy_features.push(feature)?;
-            }
-        }
-        "aws" => {
-            if let Some(feature) = aws_named(alloc, value)? {
-                bag.aws_features.push(feature)?;
-            }
-        }
-        "credentials" => {
-            if let Some(feature) = credentials_named(alloc, value)? {
-                bag.credential_features.push(feature)?;
-            }
-        }
-        _ => {}
+        "smithy" => push_named(alloc, &mut bag.smithy_features, &SMITHY_FEATURES, value),
+        "aws" => push_named(alloc, &mut bag.aws_features, &AWS_FEATURES, value),
+        "credentials" => push_named(
+            alloc,
+            &mut bag.credential_features,
+            &CREDENTIAL_FEATURES,
+            value,
+        ),
+        _ => Ok(()),
+    }
+}
+
+// Adds the feature of this name to a list.
+fn push_named<T: Debug + Copy>(
+    alloc: Global,
+    features: &mut Vec<T>,
+    all: &[T],
+    name: &str,
+) -> Mem<()> {
+    if let Some(feature) = named(alloc, all, name)? {
+        features.push(feature)?;
     }
     Ok(())
-}
-
-fn api_named(alloc: Global, value: &str) -> Option<ApiMetadata> {
-    let (service, version) = value.split_once(' ')?;
-    api_of(alloc, service, version).ok()
-}
-
-fn id_of(alloc: Global, value: &str) -> Option<InvocationId> {
-    InvocationId::new(text(alloc, value).ok()?).ok()
 }
 
 // `standard`, or the number of attempts.
@@ -97,7 +98,7 @@ fn timeout_of(value: &str) -> TimeoutConfig {
 
 // The moment `SECONDS` or `SECONDS NANOSECONDS`.
 pub fn moment_of(word: &str) -> Moment {
-    let (secs, nanos) = word.split_once(' ').unwrap_or((word, "0"));
+    let (secs, nanos) = halves(word);
     let nanos: u32 = nanos.parse().unwrap_or(0);
     DateTime::new(number(secs), nanos % 1_000_000_000)
 }

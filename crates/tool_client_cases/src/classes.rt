@@ -1,90 +1,74 @@
 use crate::headers::response_of;
-use crate::texts::{given_text, text};
+use crate::texts::{given_text, rest, text, word};
 use aws_intercept::{
     AwsErrorCodeClassifier, RetryAction, RetryKind, ServiceClockSkewClassifier, THROTTLING_ERRORS,
     TRANSIENT_ERRORS,
 };
 use smithy_core::{ErrorMetadata, Headers, HttpResponse, Mem};
 use std::alloc::Global;
-use tool_case_lines::unknown;
 
 // What a classifier says of an error with a code, `-` for one without, and of the response's delay: of `own` a copy of the one
 // that a copy of the builder makes of codes with commas between, and of `after` after what another classifier said.
 pub fn answer(alloc: Global, call: &str, words: &[&str]) -> Mem<String> {
-    match (call, words) {
-        ("error", [code, headers @ ..]) => {
-            classified(alloc, &AwsErrorCodeClassifier::new(), None, code, headers)
-        }
-        ("own", [codes, code, headers @ ..]) => {
-            classified(alloc, &classifier_of(alloc, codes)?, None, code, headers)
-        }
-        ("after", [previous, code, headers @ ..]) => {
-            let previous = Some(action_of(previous));
+    let first = word(words, 0);
+    match call {
+        "throttling" => THROTTLING_ERRORS.join(alloc, ","),
+        "transient" => TRANSIENT_ERRORS.join(alloc, ","),
+        "skew" => by_skew(alloc, first, word(words, 1)),
+        "own" => classified(alloc, &classifier_of(alloc, first)?, None, rest(words, 1)),
+        "after" => {
+            let previous = Some(action_of(first));
             classified(
                 alloc,
                 &AwsErrorCodeClassifier::new(),
                 previous,
-                code,
-                headers,
+                rest(words, 1),
             )
         }
-        ("skew", [skew, code]) => {
-            let error = error_of(alloc, code)?;
-            told(alloc, action_by_skew(alloc, skew, error.as_ref()))
-        }
-        ("throttling", _) => joined(alloc, &THROTTLING_ERRORS),
-        ("transient", _) => joined(alloc, &TRANSIENT_ERRORS),
-        _ => unknown(alloc),
+        _ => classified(alloc, &AwsErrorCodeClassifier::new(), None, words),
     }
 }
 
+// Of the error with the code that stands first, and of the response with the headers behind it.
 fn classified(
     alloc: Global,
     classifier: &AwsErrorCodeClassifier,
     previous: Option<RetryAction>,
-    code: &str,
-    headers: &[&str],
+    words: &[&str],
 ) -> Mem<String> {
-    let error = error_of(alloc, code)?;
-    classified_error(alloc, classifier, previous, error.as_ref(), headers)
-}
-
-fn classified_error(
-    alloc: Global,
-    classifier: &AwsErrorCodeClassifier,
-    previous: Option<RetryAction>,
-    error: Option<&ErrorMetadata>,
-    headers: &[&str],
-) -> Mem<String> {
-    let response = answered(alloc, headers)?;
+    let error = error_of(alloc, word(words, 0))?;
+    let response = answered(alloc, rest(words, 1))?;
     let action = match previous {
-        Some(previous) => classifier.classify_retry_v2(response.as_ref(), error, &previous),
-        None => classifier.classify_retry(response.as_ref(), error),
+        Some(previous) => {
+            classifier.classify_retry_v2(response.as_ref(), error.as_ref(), &previous)
+        }
+        None => classifier.classify_retry(response.as_ref(), error.as_ref()),
     };
-    told(alloc, action)
+    action_text(alloc, action)
 }
 
 fn classifier_of(alloc: Global, codes: &str) -> Mem<AwsErrorCodeClassifier> {
-    let builder = AwsErrorCodeClassifier::builder().transient_errors(texts_of(alloc, codes)?);
+    let mut texts = Vec::new(alloc);
+    for code in codes.split(',') {
+        texts.push(text(alloc, code)?)?;
+    }
+    let builder = AwsErrorCodeClassifier::builder().transient_errors(texts);
     builder.try_clone()?.build().try_clone()
 }
 
-fn texts_of(alloc: Global, words: &str) -> Mem<Vec<String>> {
-    let mut texts = Vec::new(alloc);
-    for word in words.split(',') {
-        texts.push(text(alloc, word)?)?;
-    }
-    Ok(texts)
-}
-
 // By the skew of a response, which has no headers.
-fn action_by_skew(alloc: Global, skew: &str, error: Option<&ErrorMetadata>) -> RetryAction {
+fn by_skew(alloc: Global, skew: &str, code: &str) -> Mem<String> {
+    let error = error_of(alloc, code)?;
     let response = HttpResponse {
         status: 200,
         headers: Headers::new(alloc),
         skew: skew.parse().ok(),
     };
-    ServiceClockSkewClassifier::new().classify_retry(Some(&response), error)
+    let classifier = ServiceClockSkewClassifier::new();
+    action_text(
+        alloc,
+        classifier.classify_retry(Some(&response), error.as_ref()),
+    )
 }
 
 // The error with this code, and none where the word is `no error`.
@@ -100,10 +84,10 @@ fn error_of(alloc: Global, code: &str) -> Mem<Option<ErrorMetadata>> {
 
 // The response with these headers, and none where the one word is `-`.
 fn answered(alloc: Global, headers: &[&str]) -> Mem<Option<HttpResponse>> {
-    match headers {
-        ["-"] => Ok(None),
-        _ => Ok(Some(response_of(alloc, headers)?)),
+    if word(headers, 0) == "-" {
+        return Ok(None);
     }
+    Ok(Some(response_of(alloc, headers)?))
 }
 
 // `KIND DELAY`, or nothing.
@@ -125,7 +109,7 @@ fn kind_of(word: &str) -> RetryKind {
     }
 }
 
-fn told(alloc: Global, action: RetryAction) -> Mem<String> {
+fn action_text(alloc: Global, action: RetryAction) -> Mem<String> {
     match action {
         RetryAction::NoActionIndicated => text(alloc, "NoActionIndicated"),
         RetryAction::Retryable {
@@ -137,19 +121,4 @@ fn told(alloc: Global, action: RetryAction) -> Mem<String> {
             retry_after: None,
         } => format!(in alloc; "{kind:?} -"),
     }
-}
-
-fn joined(alloc: Global, codes: &[&str]) -> Mem<String> {
-    let mut told = String::new(alloc);
-    for code in codes {
-        push_code(&mut told, code)?;
-    }
-    Ok(told)
-}
-
-fn push_code(told: &mut String, code: &str) -> Mem<()> {
-    if !told.is_empty() {
-        told.push(',')?;
-    }
-    told.push_str(code)
 }

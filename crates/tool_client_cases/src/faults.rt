@@ -1,5 +1,5 @@
 use crate::files::sections_of;
-use crate::texts::{printed, printed_of, text};
+use crate::texts::{printed, printed_of, rest, text, word};
 use aws_intercept::{IdFault, InvalidInvocationId, InvalidMetadataValue, UserAgentFault};
 use env_config::{
     BuildFault, CouldNotReadConfigFile, EnvConfigFileLoadError, EnvConfigParseError, ParseFault,
@@ -7,40 +7,28 @@ use env_config::{
 };
 use smithy_core::Mem;
 use std::alloc::Global;
-use tool_case_lines::unknown;
 
-// What the faults print. A fault of files or values that can be copied is copied before.
+// What the faults print, each fault of files or values by a copy.
 pub fn answer(alloc: Global, call: &str, words: &[&str]) -> Mem<String> {
-    match (call, words) {
-        ("parse", files) => match &sections_of(alloc, "default", files) {
-            Ok(_) => text(alloc, "-"),
-            Err(fault) => printed(alloc, &fault.try_clone()?),
-        },
-        ("line", [path, line, message]) => {
-            let error = error_of(alloc, path, line, message)?;
-            printed(alloc, &error.try_clone()?)
-        }
-        ("load", words) => {
-            let fault = load_fault_of(alloc, words)?;
-            printed(alloc, &fault.try_clone()?)
-        }
-        ("file", [path]) => printed(alloc, &unread(alloc, path)?.try_clone()?),
-        ("memory", ["parse"]) => printed(alloc, &ParseFault::NoMemory.try_clone()?),
-        ("memory", _) => no_value(alloc, &ValidateFault::NoMemory),
-        _ => of_client(alloc, call, words),
+    let first = word(words, 0);
+    match call {
+        "parse" => parse_text(alloc, words),
+        "line" => printed(alloc, line_fault(alloc, words)),
+        "load" => printed(alloc, load_fault(alloc, words)),
+        "file" => printed(alloc, unread(alloc, first)),
+        "memory" if first == "parse" => printed(alloc, ParseFault::NoMemory.try_clone()),
+        "memory" => value_text(alloc, &ValidateFault::NoMemory),
+        _ => of_client(alloc, call, first),
     }
 }
 
-fn of_client(alloc: Global, call: &str, words: &[&str]) -> Mem<String> {
-    match (call, words) {
-        ("invocation", _) => printed(alloc, &InvalidInvocationId),
-        ("metadata", _) => printed(alloc, &InvalidMetadataValue),
-        ("build", [name]) => {
-            printed_of(alloc, &[BuildFault::NoFiles, BuildFault::NoMemory], name)
-        }
-        ("id", [name]) => printed_of(alloc, &[IdFault::UsedUp, IdFault::NoMemory], name),
-        ("agent", [name]) => printed_of(alloc, &USER_AGENT_FAULTS, name),
-        _ => unknown(alloc),
+fn of_client(alloc: Global, call: &str, name: &str) -> Mem<String> {
+    match call {
+        "invocation" => printed(alloc, Ok(InvalidInvocationId)),
+        "metadata" => printed(alloc, Ok(InvalidMetadataValue)),
+        "build" => printed_of(alloc, &[BuildFault::NoFiles, BuildFault::NoMemory], name),
+        "id" => printed_of(alloc, &[IdFault::UsedUp, IdFault::NoMemory], name),
+        _ => printed_of(alloc, &USER_AGENT_FAULTS, name),
     }
 }
 
@@ -52,33 +40,40 @@ const USER_AGENT_FAULTS: [UserAgentFault; 5] = [
     UserAgentFault::NoMemory,
 ];
 
-fn no_value(alloc: Global, fault: &ValidateFault<&'static str>) -> Mem<String> {
-    printed(alloc, &fault.try_clone()?)
+fn parse_text(alloc: Global, files: &[&str]) -> Mem<String> {
+    match &sections_of(alloc, "default", files) {
+        Ok(_) => text(alloc, "-"),
+        Err(fault) => printed(alloc, fault.try_clone()),
+    }
+}
+
+fn value_text(alloc: Global, fault: &ValidateFault<&'static str>) -> Mem<String> {
+    printed(alloc, fault.try_clone())
 }
 
 // The error of PATH, LINE and MESSAGE.
-fn error_of(alloc: Global, path: &str, line: &str, message: &str) -> Mem<EnvConfigParseError> {
-    let path = text(alloc, path)?;
-    Ok(EnvConfigParseError {
+fn line_fault(alloc: Global, words: &[&str]) -> Mem<EnvConfigParseError> {
+    let path = text(alloc, word(words, 0))?;
+    let message = text(alloc, word(words, 2))?;
+    let fault = EnvConfigParseError {
         path,
-        line_number: line.parse().unwrap_or(0),
-        message: text(alloc, message)?,
-    })
+        line_number: word(words, 1).parse().unwrap_or(0),
+        message,
+    };
+    fault.try_clone()
 }
 
 // The fault `line` of a line, or `file` of a file, or want of memory.
-fn load_fault_of(alloc: Global, words: &[&str]) -> Mem<EnvConfigFileLoadError> {
-    Ok(match words {
-        ["file", path] => EnvConfigFileLoadError::CouldNotReadFile(unread(alloc, path)?),
-        ["line", path, line, message] => {
-            EnvConfigFileLoadError::from(error_of(alloc, path, line, message)?)
-        }
+fn load_fault(alloc: Global, words: &[&str]) -> Mem<EnvConfigFileLoadError> {
+    let fault = match word(words, 0) {
+        "file" => EnvConfigFileLoadError::CouldNotReadFile(unread(alloc, word(words, 1))?),
+        "line" => EnvConfigFileLoadError::from(line_fault(alloc, rest(words, 1))?),
         _ => EnvConfigFileLoadError::NoMemory,
-    })
+    };
+    fault.try_clone()
 }
 
 fn unread(alloc: Global, path: &str) -> Mem<CouldNotReadConfigFile> {
-    Ok(CouldNotReadConfigFile {
-        path: text(alloc, path)?,
-    })
+    let path = text(alloc, path)?;
+    CouldNotReadConfigFile { path }.try_clone()
 }

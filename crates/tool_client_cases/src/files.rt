@@ -14,19 +14,13 @@ pub fn sections_of(
 }
 
 // These files, with a profile selected.
-pub fn source_of(alloc: Global, selected: &str, files: &[&str]) -> Mem<Source> {
-    Ok(Source {
-        files: files_of(alloc, files)?,
-        profile: text(alloc, selected)?,
-    })
-}
-
-fn files_of(alloc: Global, words: &[&str]) -> Mem<Vec<File>> {
+pub fn source_of(alloc: Global, selected: &str, words: &[&str]) -> Mem<Source> {
     let mut files = Vec::new(alloc);
     for word in words {
         files.push(file_of(alloc, word)?)?;
     }
-    Ok(files)
+    let profile = text(alloc, selected)?;
+    Ok(Source { files, profile })
 }
 
 // The file `KIND: TEXT` or `KIND PATH: TEXT`.
@@ -34,35 +28,41 @@ pub fn file_of(alloc: Global, word: &str) -> Mem<File> {
     let (place, contents) = word.split_once(": ").unwrap_or((word, ""));
     let (kind, path) = place.split_once(' ').unwrap_or((place, "-"));
     let path = given_text(alloc, path)?;
+    let contents = text(alloc, contents)?;
     Ok(File {
         kind: kind_of(kind),
         path,
-        contents: text(alloc, contents)?,
+        contents,
     })
 }
 
 pub fn kind_of(word: &str) -> EnvConfigFileKind {
-    if word == "credentials" {
-        EnvConfigFileKind::Credentials
-    } else {
-        EnvConfigFileKind::Config
+    match word {
+        "credentials" => EnvConfigFileKind::Credentials,
+        _ => EnvConfigFileKind::Config,
     }
+}
+
+// The profile and the files of a source, as words give them.
+pub fn source_text(alloc: Global, source: &Source) -> Mem<String> {
+    let profile = source.profile.as_str();
+    let mut out = format!(in alloc; "profile {profile}")?;
+    for file in &source.files {
+        out.push_str(" | ")?;
+        push_file(&mut out, file)?;
+    }
+    Ok(out)
 }
 
 // Appends the file as a word gives it.
-pub fn push_file(told: &mut String, file: &File) -> Mem<()> {
-    push_place(told, file)?;
-    told.push_str(": ")?;
-    push_visible(told, file.contents.as_str())
-}
-
-fn push_place(told: &mut String, file: &File) -> Mem<()> {
-    let kind = match file.kind {
+pub fn push_file(out: &mut String, file: &File) -> Mem<()> {
+    out.push_str(match file.kind {
         EnvConfigFileKind::Config => "config",
         EnvConfigFileKind::Credentials => "credentials",
-    };
-    match &file.path {
-        Some(path) => write!(told, "{kind} {path}"),
-        None => told.push_str(kind),
+    })?;
+    if let Some(path) = &file.path {
+        write!(out, " {path}")?;
     }
+    out.push_str(": ")?;
+    push_visible(out, file.contents.as_str())
 }

@@ -1,24 +1,22 @@
-use crate::files::kind_of;
-use crate::profiles::source_told;
-use crate::texts::{env_of, text};
-use env_config::{BuildFault, Builder, EnvConfigFileLoadError, EnvConfigFiles, load};
+use crate::files::{kind_of, source_text};
+use crate::texts::{debugged, env_of, printed, text, word};
+use env_config::{BuildFault, Builder, EnvConfigFileKind, EnvConfigFiles, load};
 use smithy_core::{CalmDisk, Disk, FaultyDisk, Mem};
 use std::alloc::Global;
-use tool_case_lines::{bytes_of_hex, unknown};
+use tool_case_lines::bytes_of_hex;
 
 // What loading from a disk gives, or of `fail` from one of which these reads fail.
 pub fn answer(alloc: Global, call: &str, words: &[&str]) -> Mem<String> {
-    match (call, words) {
-        ("load", [files, variables, disk]) => {
-            let mut disk = CalmDisk::new(disk_of(alloc, disk)?);
-            loaded(alloc, files, variables, &mut disk)
+    match call {
+        "fail" => {
+            let fails = reads_of(alloc, word(words, 0))?;
+            let mut disk = FaultyDisk::new(disk_of(alloc, word(words, 3))?, fails);
+            loaded(alloc, word(words, 1), word(words, 2), &mut disk)
         }
-        ("fail", [reads, files, variables, disk]) => {
-            let fails = reads_of(alloc, reads)?;
-            let mut disk = FaultyDisk::new(disk_of(alloc, disk)?, fails);
-            loaded(alloc, files, variables, &mut disk)
+        _ => {
+            let mut disk = CalmDisk::new(disk_of(alloc, word(words, 2))?);
+            loaded(alloc, word(words, 0), word(words, 1), &mut disk)
         }
-        _ => unknown(alloc),
     }
 }
 
@@ -27,15 +25,11 @@ fn disk_of(alloc: Global, files: &str) -> Mem<Vec<(String, Vec<u8>)>> {
     let mut listed = Vec::new(alloc);
     for file in files.split(' ') {
         if let Some((path, contents)) = file.split_once('=') {
-            listed.push(file_of(alloc, path, contents)?)?;
+            let path = text(alloc, path)?;
+            listed.push((path, bytes_of(alloc, contents)?))?;
         }
     }
     Ok(listed)
-}
-
-fn file_of(alloc: Global, path: &str, contents: &str) -> Mem<(String, Vec<u8>)> {
-    let bytes = bytes_of(alloc, contents)?;
-    Ok((text(alloc, path)?, bytes))
 }
 
 fn bytes_of(alloc: Global, contents: &str) -> Mem<Vec<u8>> {
@@ -57,18 +51,14 @@ fn reads_of(alloc: Global, reads: &str) -> Mem<Vec<u64>> {
 }
 
 // The profile and the files that are loaded, or the fault.
-fn loaded<D: Disk>(alloc: Global, files: &str, variables: &str, disk: &mut D) -> Mem<String> {
+fn loaded<D: Disk>(alloc: Global, steps: &str, variables: &str, disk: &mut D) -> Mem<String> {
     let env = env_of(alloc, variables)?;
-    match &chosen(alloc, files) {
-        Ok(files) => told(alloc, load(alloc, &env, disk, files)),
-        Err(fault) => format!(in alloc; "{fault:?}"),
-    }
-}
-
-fn told(alloc: Global, loaded: Result<env_config::Source, EnvConfigFileLoadError>) -> Mem<String> {
-    match loaded {
-        Ok(source) => source_told(alloc, &source),
-        Err(fault) => format!(in alloc; "{fault}"),
+    match chosen(alloc, steps) {
+        Ok(files) => match load(alloc, &env, disk, &files) {
+            Ok(source) => source_text(alloc, &source),
+            Err(fault) => printed(alloc, Ok(fault)),
+        },
+        Err(fault) => debugged(alloc, Ok(fault)),
     }
 }
 
@@ -77,7 +67,7 @@ fn chosen(alloc: Global, steps: &str) -> Result<EnvConfigFiles, BuildFault> {
     match steps {
         "default" => Ok(EnvConfigFiles::default_files(alloc)?),
         "copy of default" => Ok(EnvConfigFiles::default_files(alloc)?.try_clone()?),
-        _ => Ok(stepped(alloc, steps)?.try_clone()?.build()?),
+        _ => stepped(alloc, steps)?.try_clone()?.build(),
     }
 }
 
@@ -85,25 +75,21 @@ fn chosen(alloc: Global, steps: &str) -> Result<EnvConfigFiles, BuildFault> {
 pub fn stepped(alloc: Global, steps: &str) -> Mem<Builder> {
     let mut builder = EnvConfigFiles::builder(alloc);
     for step in steps.split(" + ") {
-        builder = with_step(alloc, builder, step)?;
+        if let Some((kind, what)) = step.split_once(' ') {
+            builder = with_step(alloc, builder, kind_of(kind), what)?;
+        }
     }
     Ok(builder)
 }
 
-// `KIND default`, `KIND at PATH` or `KIND text TEXT`.
-fn with_step(alloc: Global, builder: Builder, step: &str) -> Mem<Builder> {
-    let Some((kind, what)) = step.split_once(' ') else {
-        return Ok(builder);
-    };
-    let kind = kind_of(kind);
-    match what.split_once(' ') {
-        Some(("at", path)) => builder.with_file(kind, text(alloc, path)?),
-        Some(("text", contents)) => builder.with_contents(kind, text(alloc, contents)?),
-        _ => Ok(match kind {
-            env_config::EnvConfigFileKind::Config => builder.include_default_config_file(true),
-            env_config::EnvConfigFileKind::Credentials => {
-                builder.include_default_credentials_file(true)
-            }
-        }),
+// `default`, `at PATH` or `text TEXT`.
+fn with_step(alloc: Global, builder: Builder, kind: EnvConfigFileKind, what: &str) -> Mem<Builder> {
+    match (what.split_once(' '), kind) {
+        (Some(("at", path)), _) => builder.with_file(kind, text(alloc, path)?),
+        (Some((_, contents)), _) => builder.with_contents(kind, text(alloc, contents)?),
+        (None, EnvConfigFileKind::Config) => Ok(builder.include_default_config_file(true)),
+        (None, EnvConfigFileKind::Credentials) => {
+            Ok(builder.include_default_credentials_file(true))
+        }
     }
 }

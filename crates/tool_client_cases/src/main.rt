@@ -53,7 +53,7 @@ impl Answers for Clients {
 fn answer(alloc: Global, subject: &str, call: &str, words: &[&str]) -> Result<String, AllocError> {
     match subject {
         "profiles" => profiles::answer(alloc, call, words),
-        "keys" => keys::answer(alloc, words),
+        "keys" => keys::answer(alloc, texts::word(words, 0)),
         "values" => values::answer(alloc, call, words),
         "files" => loading::answer(alloc, call, words),
         "faults" => faults::answer(alloc, call, words),

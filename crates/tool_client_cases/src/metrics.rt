@@ -1,61 +1,41 @@
-use crate::texts::text;
+use crate::texts::{debugged, named, text, word};
 use aws_intercept::{
     AwsCredentialFeature, AwsSdkFeature, AwsUserAgent, BusinessMetric, SmithySdkFeature,
 };
 use smithy_core::Mem;
 use std::alloc::Global;
-use std::fmt::Debug;
 use tool_case_lines::{halves, unknown};
 
+// The metric of a feature, or the ids of metrics in an agent's header.
 pub fn answer(alloc: Global, call: &str, words: &[&str]) -> Mem<String> {
-    match (call, words) {
-        ("smithy", [name]) => {
-            told(
-                alloc,
-                smithy_named(alloc, name)?.map(SmithySdkFeature::business_metric),
-            )
-        }
-        ("aws", [name]) => {
-            told(
-                alloc,
-                aws_named(alloc, name)?.map(AwsSdkFeature::business_metric),
-            )
-        }
-        ("credentials", [name]) => {
-            told(
-                alloc,
-                credentials_named(alloc, name)?.map(AwsCredentialFeature::business_metric),
-            )
-        }
-        ("ids", counts) => ids(alloc, counts),
-        _ => unknown(alloc),
+    if call == "ids" {
+        return ids(alloc, words);
     }
-}
-
-fn told(alloc: Global, metric: Option<BusinessMetric>) -> Mem<String> {
-    match metric {
-        Some(metric) => format!(in alloc; "{metric:?}"),
+    match metric_of(alloc, call, word(words, 0))? {
+        Some(metric) => debugged(alloc, Ok(metric)),
         None => unknown(alloc),
     }
 }
 
-// The ids that an agent tells of the metrics `COUNT NAME`.
+fn metric_of(alloc: Global, list: &str, name: &str) -> Mem<Option<BusinessMetric>> {
+    Ok(match list {
+        "smithy" => named(alloc, &SMITHY_FEATURES, name)?.map(SmithySdkFeature::business_metric),
+        "aws" => named(alloc, &AWS_FEATURES, name)?.map(AwsSdkFeature::business_metric),
+        _ => named(alloc, &CREDENTIAL_FEATURES, name)?.map(AwsCredentialFeature::business_metric),
+    })
+}
+
+// The ids in an agent's header of the metrics `COUNT NAME`.
 fn ids(alloc: Global, counts: &[&str]) -> Mem<String> {
-    let told = header_with(alloc, counts)?;
-    match told.as_str().split_once(" m/") {
-        Some((_, ids)) => text(alloc, ids),
-        None => text(alloc, "-"),
-    }
+    let header = header_with(alloc, counts)?;
+    let (_, ids) = header.as_str().split_once(" m/").unwrap_or(("", "-"));
+    text(alloc, ids)
 }
 
 fn header_with(alloc: Global, counts: &[&str]) -> Mem<String> {
     let mut agent = AwsUserAgent::for_tests(alloc)?;
-    told_with(alloc, &mut agent, counts)
-}
-
-fn told_with(alloc: Global, agent: &mut AwsUserAgent, counts: &[&str]) -> Mem<String> {
     for count in counts {
-        add_count(alloc, agent, count)?;
+        add_count(alloc, &mut agent, count)?;
     }
     agent.ua_header()
 }
@@ -64,7 +44,7 @@ fn told_with(alloc: Global, agent: &mut AwsUserAgent, counts: &[&str]) -> Mem<St
 fn add_count(alloc: Global, agent: &mut AwsUserAgent, count: &str) -> Mem<()> {
     let (count, name) = halves(count);
     let count: u32 = count.parse().unwrap_or(0);
-    if let Some(metric) = metric_named(alloc, name)? {
+    if let Some(metric) = named(alloc, &METRICS, name)? {
         for _ in 0..count {
             agent.add_business_metric(metric)?;
         }
@@ -72,38 +52,7 @@ fn add_count(alloc: Global, agent: &mut AwsUserAgent, count: &str) -> Mem<()> {
     Ok(())
 }
 
-pub fn metric_named(alloc: Global, name: &str) -> Mem<Option<BusinessMetric>> {
-    named(alloc, &METRICS, name)
-}
-
-pub fn smithy_named(alloc: Global, name: &str) -> Mem<Option<SmithySdkFeature>> {
-    named(alloc, &SMITHY_FEATURES, name)
-}
-
-pub fn aws_named(alloc: Global, name: &str) -> Mem<Option<AwsSdkFeature>> {
-    named(alloc, &AWS_FEATURES, name)
-}
-
-pub fn credentials_named(alloc: Global, name: &str) -> Mem<Option<AwsCredentialFeature>> {
-    named(alloc, &CREDENTIAL_FEATURES, name)
-}
-
-// The one that shows itself by this name.
-fn named<T: Debug + Copy>(alloc: Global, all: &[T], name: &str) -> Mem<Option<T>> {
-    for one in all {
-        if shows(alloc, one, name)? {
-            return Ok(Some(*one));
-        }
-    }
-    Ok(None)
-}
-
-fn shows<T: Debug>(alloc: Global, one: &T, name: &str) -> Mem<bool> {
-    let shown = format!(in alloc; "{one:?}")?;
-    Ok(shown.as_str() == name)
-}
-
-const METRICS: [BusinessMetric; 98] = [
+pub const METRICS: [BusinessMetric; 98] = [
     BusinessMetric::ResourceModel,
     BusinessMetric::Waiter,
     BusinessMetric::Paginator,
@@ -204,7 +153,7 @@ const METRICS: [BusinessMetric; 98] = [
     BusinessMetric::S3RegionRedirect,
 ];
 
-const SMITHY_FEATURES: [SmithySdkFeature; 16] = [
+pub const SMITHY_FEATURES: [SmithySdkFeature; 16] = [
     SmithySdkFeature::Waiter,
     SmithySdkFeature::Paginator,
     SmithySdkFeature::GzipRequestCompression,
@@ -223,7 +172,7 @@ const SMITHY_FEATURES: [SmithySdkFeature; 16] = [
     SmithySdkFeature::ObservabilityOtelMetrics,
 ];
 
-const AWS_FEATURES: [AwsSdkFeature; 14] = [
+pub const AWS_FEATURES: [AwsSdkFeature; 14] = [
     AwsSdkFeature::AccountIdModePreferred,
     AwsSdkFeature::AccountIdModeDisabled,
     AwsSdkFeature::AccountIdModeRequired,
@@ -240,7 +189,7 @@ const AWS_FEATURES: [AwsSdkFeature; 14] = [
     AwsSdkFeature::S3FilePath,
 ];
 
-const CREDENTIAL_FEATURES: [AwsCredentialFeature; 23] = [
+pub const CREDENTIAL_FEATURES: [AwsCredentialFeature; 23] = [
     AwsCredentialFeature::CredentialsCode,
     AwsCredentialFeature::CredentialsEnvVars,
     AwsCredentialFeature::CredentialsEnvVarsStsWebIdToken,

@@ -3,40 +3,31 @@ ghost use Rattle.std.specs.Prelude.{◌≡◌, ◌≤◌, true};
 ghost use Rattle.operation_run.specs.Again.{most_attempts};
 
 mod always;
-mod bags;
 mod given;
 mod replies;
 mod shown;
 
 use crate::operations::always::Always;
-use crate::operations::bags::bag_of;
-use crate::operations::given::{clock_of, config_of, env_of, identity_of, ids_of, request_of};
-use crate::operations::replies::replies_of;
-use crate::operations::shown::{outcome_text, with_requests, with_state};
+use crate::operations::given::{Given, clock_of, given_of};
+use crate::operations::shown::{outcome_text, push_requests, push_state};
 use aws_auth::SigningInputs;
-use aws_intercept::{ConfigBag, InvocationIdGenerator, NoInvocationIdGenerator};
+use aws_intercept::{
+    ConfigBag, InvocationIdGenerator, NoInvocationIdGenerator, PredefinedInvocationIdGenerator,
+};
 use operation_run::{ScriptedTransport, Transport, operate};
-use smithy_core::{HttpRequest, Identity, Mem, Moment};
+use smithy_core::Mem;
 use std::alloc::Global;
+use std::mem;
 use tool_case_lines::{has_part, on_one_line, unknown};
 
 /// What an operation answers, sends, takes and leaves in its bag.
 pub fn answer(alloc: Global, method: &str, words: &[&str]) -> Mem<String> {
-    match words {
-        [target, parts @ ..] => {
-            let request = request_of(alloc, method, target, parts)?;
-            of_request(alloc, &request, parts)
-        }
-        [] => unknown(alloc),
-    }
-}
-
-fn of_request(alloc: Global, request: &HttpRequest, parts: &[&str]) -> Mem<String> {
-    let mut bag = bag_of(alloc, parts)?;
+    let mut bag = ConfigBag::new(alloc);
+    let mut given = given_of(alloc, &mut bag, method, words)?;
     if !has_attempts(&bag) {
         return unknown(alloc);
     }
-    of_bag(alloc, request, &mut bag, parts)
+    of_given(alloc, &mut given, &mut bag, words)
 }
 
 fn has_attempts(bag: &ConfigBag) -> bool
@@ -48,99 +39,71 @@ fn has_attempts(bag: &ConfigBag) -> bool
     }
 }
 
-fn of_bag(alloc: Global, request: &HttpRequest, bag: &mut ConfigBag, parts: &[&str]) -> Mem<String>
+fn of_given(alloc: Global, given: &mut Given, bag: &mut ConfigBag, words: &[&str]) -> Mem<String>
     requires { 1 ≤ most_attempts bag.old }
 {
-    let identity = identity_of(alloc, parts)?;
-    if has_part(parts, "no-ids") {
-        let mut none = NoInvocationIdGenerator::new();
-        return of_ids(alloc, request, &identity, bag, &mut none, parts);
-    }
-    let mut ids = ids_of(alloc, parts)?;
-    of_ids(alloc, request, &identity, bag, &mut ids, parts)
-}
-
-fn of_ids<G: InvocationIdGenerator>(
-    alloc: Global,
-    request: &HttpRequest,
-    identity: &Identity,
-    bag: &mut ConfigBag,
-    ids: &mut G,
-    parts: &[&str],
-) -> Mem<String>
-    requires { 1 ≤ most_attempts bag.old }
-{
-    let mut moments = Vec::new(alloc);
-    let text = if has_part(parts, "always") {
-        let mut always = Always { alloc };
+    let ids = mem::replace(&mut given.ids, Vec::new(alloc));
+    let mut ids = PredefinedInvocationIdGenerator::new(ids);
+    let mut out = if has_part(words, "no-ids") {
         over(
             alloc,
-            request,
-            identity,
+            given,
             bag,
-            ids,
-            &mut always,
-            &mut moments,
-            parts,
+            &mut NoInvocationIdGenerator::new(),
+            words,
         )?
     } else {
-        over_script(alloc, request, identity, bag, ids, &mut moments, parts)?
+        over(alloc, given, bag, &mut ids, words)?
     };
-    let text = with_state(text, moments.as_slice(), bag)?;
-    on_one_line(alloc, text.as_str())
+    push_state(&mut out, given.taken.as_slice(), bag)?;
+    on_one_line(alloc, out.as_str())
 }
 
-fn over_script<G: InvocationIdGenerator>(
+// The outcome, and the requests that were sent, where the transport keeps them.
+fn over<G: InvocationIdGenerator>(
     alloc: Global,
-    request: &HttpRequest,
-    identity: &Identity,
+    given: &mut Given,
     bag: &mut ConfigBag,
     ids: &mut G,
-    moments: &mut Vec<Moment>,
-    parts: &[&str],
+    words: &[&str],
 ) -> Mem<String>
     requires { 1 ≤ most_attempts bag.old }
 {
-    let mut script = ScriptedTransport::new(replies_of(alloc, parts)?).try_clone()?;
-    let text = over(
-        alloc,
-        request,
-        identity,
-        bag,
-        ids,
-        &mut script,
-        moments,
-        parts,
-    )?;
-    with_requests(alloc, text, script.sent())
+    if has_part(words, "always") {
+        return outcome(alloc, given, bag, ids, &mut Always { alloc });
+    }
+    let replies = mem::replace(&mut given.replies, Vec::new(alloc));
+    let mut script = ScriptedTransport::new(replies).try_clone()?;
+    let mut out = outcome(alloc, given, bag, ids, &mut script)?;
+    push_requests(alloc, &mut out, script.sent())?;
+    Ok(out)
 }
 
-// The outcome over a transport.
-fn over<T: Transport, G: InvocationIdGenerator>(
+fn outcome<T: Transport, G: InvocationIdGenerator>(
     alloc: Global,
-    request: &HttpRequest,
-    identity: &Identity,
+    given: &mut Given,
     bag: &mut ConfigBag,
     ids: &mut G,
     transport: &mut T,
-    moments: &mut Vec<Moment>,
-    parts: &[&str],
 ) -> Mem<String>
     requires { 1 ≤ most_attempts bag.old }
 {
-    let config = config_of(alloc, parts)?;
     let inputs = SigningInputs {
-        config: Some(&config),
-        endpoint: None,
-        name: None,
-        region: None,
-        payload: None,
         skew_millis: Some(7_000_000),
+        ..SigningInputs::from(&given.config)
     };
-    let env = env_of(alloc, parts)?;
-    let mut clock = clock_of(alloc, parts)?;
+    let mut clock = clock_of(mem::replace(&mut given.moments, Vec::new(alloc)))?;
     let outcome = operate(
-        alloc, request, identity, &inputs, &env, bag, ids, &mut clock, transport, moments,
+        alloc,
+        &given.request,
+        &given.identity,
+        &inputs,
+        &given.env,
+        bag,
+        ids,
+        &mut clock,
+        transport,
+        &mut given.taken,
     );
     outcome_text(alloc, &outcome)
 }

@@ -1,152 +1,109 @@
-use crate::files::{file_of, push_file, sections_of, source_of};
-use crate::keys::key_of;
-use crate::sections::{insert_property, property_of, push_profile, push_rest, push_sections};
-use crate::texts::{given, push_visible, text, word_of};
+use crate::files::{file_of, push_file, sections_of, source_of, source_text};
+use crate::keys::builder_of;
+use crate::sections::{
+    insert_property, property_of, push_pair, push_profile, push_rest, sections_text,
+};
+use crate::texts::{given, rest, text, word};
 use env_config::{
-    EnvConfigParseError, EnvConfigSections, EnvConfigValue, File, ParseFault, Profile, Properties,
-    PropertiesKey, Property, SelectedProfile, Source, SsoSession,
+    EnvConfigSections, EnvConfigValue, File, ParseFault, Profile, Properties, PropertiesKey,
+    Property, SelectedProfile, SsoSession,
 };
 use smithy_core::{Env, Mem};
 use std::alloc::Global;
 use std::collections::BTreeMap;
-use tool_case_lines::unknown;
 
 pub fn answer(alloc: Global, call: &str, words: &[&str]) -> Mem<String> {
-    match (call, words) {
-        ("parse" | "copy" | "others", [keys, files @ ..]) => {
-            of_files(alloc, call, "default", keys, "", files)
-        }
-        ("session", [name, key, files @ ..]) => of_files(alloc, call, "default", key, name, files),
-        ("select", [name, key, files @ ..]) => of_files(alloc, call, name, key, "", files),
-        ("choose", [name, keys, service, files @ ..]) => {
-            let source = source_of(alloc, name, files)?;
-            chosen_of(alloc, &source, keys, given(service))
-        }
-        ("source", [selected, files @ ..]) => {
-            let source = source_of(alloc, selected, files)?;
-            source_told(alloc, &source.try_clone()?)
-        }
-        ("equal", [name, file, other_name, other_file]) => {
-            equal(alloc, name, file, other_name, other_file)
-        }
-        ("profile", [name, key, value, asked]) => profile(alloc, name, key, value, asked),
-        ("property", [key, value]) => {
-            let copy = property_of(alloc, key, value)?.try_clone()?;
-            format!(in alloc; "{}={}", copy.key(), copy.value())
-        }
-        ("none", [key]) => selected(alloc, &EnvConfigSections::new(alloc)?, key),
-        ("file", [word]) => file_told(alloc, &file_of(alloc, word)?.try_clone()?),
-        _ => unknown(alloc),
+    let (first, second) = (word(words, 0), word(words, 1));
+    match call {
+        "choose" => chosen(alloc, words),
+        "source" => source_text(
+            alloc,
+            &source_of(alloc, first, rest(words, 1))?.try_clone()?,
+        ),
+        "equal" => equal(alloc, words),
+        "profile" => profile(alloc, words),
+        "property" => property_text(alloc, &property_of(alloc, first, second)?.try_clone()?),
+        "none" => selected(alloc, &EnvConfigSections::new(alloc)?, first),
+        "file" => file_text(alloc, &file_of(alloc, first)?.try_clone()?),
+        _ => of_files(alloc, call, words),
     }
 }
 
-// What the sections of the files answer to a call.
-pub fn of_files(
-    alloc: Global,
-    call: &str,
-    profile: &str,
-    keys: &str,
-    session: &str,
-    files: &[&str],
-) -> Mem<String> {
-    match &sections_of(alloc, profile, files) {
-        Ok(sections) => of_sections(alloc, call, sections, keys, session),
-        Err(fault) => fault_told(alloc, fault),
+// What the sections of files answer to a call, for `default` or the profile that is selected.
+fn of_files(alloc: Global, call: &str, words: &[&str]) -> Mem<String> {
+    let (selected, place) = match call {
+        "select" => (word(words, 0), 2),
+        "session" => ("default", 2),
+        _ => ("default", 1),
+    };
+    match &sections_of(alloc, selected, rest(words, place)) {
+        Ok(sections) => of_sections(alloc, call, sections, words),
+        Err(fault) => fault_text(alloc, fault),
     }
 }
 
-// What they, or a copy of them, tell of the keys; what a copy of the others tells, or of the session; the selected profile and
-// the value of its key; or what `Debug` shows of the others.
+// They or a copy of them with the keys, a copy of the others, the session, or the selected profile.
 fn of_sections(
     alloc: Global,
     call: &str,
     sections: &EnvConfigSections,
-    keys: &str,
-    session: &str,
+    words: &[&str],
 ) -> Mem<String> {
+    let (first, second) = (word(words, 0), word(words, 1));
     match call {
-        "parse" => sections_told(alloc, sections, keys),
-        "copy" => sections_told(alloc, &sections.try_clone()?, keys),
-        "others" => others_told(alloc, &sections.other_sections().try_clone()?, keys),
-        "session" => copied_session(alloc, sections.sso_session(session), keys),
-        "select" => selected(alloc, sections, keys),
-        _ => format!(in alloc; "{:?}", sections.other_sections()),
+        "copy" => sections_text(alloc, &sections.try_clone()?, first),
+        "others" => others_text(alloc, &sections.other_sections().try_clone()?, first),
+        "session" => session_text(alloc, sections.sso_session(first), second),
+        "select" => selected(alloc, sections, second),
+        _ => sections_text(alloc, sections, first),
     }
 }
 
-fn sections_told(alloc: Global, sections: &EnvConfigSections, keys: &str) -> Mem<String> {
-    let mut told = String::new(alloc);
-    push_sections(alloc, &mut told, sections, keys)?;
-    Ok(told)
-}
-
 // `PATH line NUMBER: MESSAGE`.
-pub fn fault_told(alloc: Global, fault: &ParseFault) -> Mem<String> {
+pub fn fault_text(alloc: Global, fault: &ParseFault) -> Mem<String> {
     match fault {
-        ParseFault::Parse(error) => line_told(alloc, error),
+        ParseFault::Parse(error) => {
+            let (path, number, message) = (&error.path, error.line_number, &error.message);
+            let gap = if path.is_empty() { "" } else { " " };
+            format!(in alloc; "{path}{gap}line {number}: {message}")
+        }
         _ => format!(in alloc; "{fault}"),
     }
 }
 
-fn line_told(alloc: Global, error: &EnvConfigParseError) -> Mem<String> {
-    let (path, number) = (error.path.as_str(), error.line_number);
-    let gap = if path.is_empty() { "" } else { " " };
-    let message = error.message.as_str();
-    format!(in alloc; "{path}{gap}line {number}: {message}")
-}
-
-// What is read of the profile for the keys and the service gives of them.
-fn chosen_of(alloc: Global, source: &Source, keys: &str, service: Option<&str>) -> Mem<String> {
+// What is read of the profile for the keys and the service, and the region of the service, which is its own or else the profile's.
+fn chosen(alloc: Global, words: &[&str]) -> Mem<String> {
+    let (keys, service) = (word(words, 1), given(word(words, 2)));
     let asked: Vec<&str> = keys.split(' ').collect(alloc)?;
-    match &SelectedProfile::parse(alloc, source, asked.as_slice(), service) {
-        Ok(profile) => chosen(alloc, profile, keys, service),
-        Err(fault) => fault_told(alloc, fault),
+    let source = source_of(alloc, word(words, 0), rest(words, 3))?;
+    match &SelectedProfile::parse(alloc, &source, asked.as_slice(), service) {
+        Ok(profile) => chosen_text(alloc, profile, keys, service),
+        Err(fault) => fault_text(alloc, fault),
     }
 }
 
-// `PROFILE KEY=VALUE .. region=VALUE`, the region being the service's own, or else the profile's.
-fn chosen(
+fn chosen_text(
     alloc: Global,
     profile: &SelectedProfile,
     keys: &str,
     service: Option<&str>,
 ) -> Mem<String> {
-    let mut told = text(alloc, profile.name())?;
-    push_values(&mut told, profile, keys)?;
-    if let Some(id) = service {
-        push_region(alloc, &mut told, profile, id)?;
-    }
-    Ok(told)
-}
-
-fn push_values(told: &mut String, profile: &SelectedProfile, keys: &str) -> Mem<()> {
+    let mut out = text(alloc, profile.name())?;
     for key in keys.split(' ') {
-        push_value(told, key, profile.get(key).unwrap_or("-"))?;
+        push_pair(&mut out, key, profile.get(key).unwrap_or("-"))?;
     }
-    Ok(())
-}
-
-fn push_region(alloc: Global, told: &mut String, profile: &SelectedProfile, id: &str) -> Mem<()> {
-    match region_of(alloc, profile, &Env::new(alloc), id)? {
-        Some(region) => push_value(told, "region", region.as_str()),
-        None => push_value(told, "region", "-"),
+    if let Some(id) = service {
+        push_region(alloc, &mut out, profile, id)?;
     }
+    Ok(out)
 }
 
-fn region_of(alloc: Global, profile: &SelectedProfile, env: &Env, id: &str) -> Mem<Option<String>> {
-    match profile.load(alloc, env, &asked_region(id))? {
-        Some((region, _)) => Ok(Some(region)),
-        None => Ok(None),
+fn push_region(alloc: Global, out: &mut String, profile: &SelectedProfile, id: &str) -> Mem<()> {
+    let asked = EnvConfigValue::new().profile("region").service_id(id);
+    match &profile.load(alloc, &Env::new(alloc), &asked)? {
+        Some((region, _)) => push_pair(out, "region", region.as_str()),
+        None => push_pair(out, "region", "-"),
     }
-}
-
-fn asked_region(id: &str) -> EnvConfigValue<'_> {
-    EnvConfigValue::new().profile("region").service_id(id)
-}
-
-fn push_value(told: &mut String, key: &str, value: &str) -> Mem<()> {
-    write!(told, " {key}=")?;
-    push_visible(told, value)
 }
 
 fn selected(alloc: Global, sections: &EnvConfigSections, key: &str) -> Mem<String> {
@@ -159,102 +116,74 @@ fn selected(alloc: Global, sections: &EnvConfigSections, key: &str) -> Mem<Strin
 }
 
 // The sub-properties of the keys.
-fn others_told(alloc: Global, others: &Properties, keys: &str) -> Mem<String> {
-    let mut told = String::new(alloc);
-    push_all_others(alloc, &mut told, others, keys)?;
-    Ok(told)
-}
-
-fn push_all_others(alloc: Global, told: &mut String, others: &Properties, keys: &str) -> Mem<()> {
+fn others_text(alloc: Global, others: &Properties, keys: &str) -> Mem<String> {
+    let mut out = String::new(alloc);
     let mut found = Properties::new(alloc);
     for word in keys.split(',') {
-        if let Ok(key) = key_of(alloc, word) {
-            push_other(told, &mut found, key, others)?;
+        if let Ok(key) = builder_of(alloc, word)?.build() {
+            push_other(alloc, &mut out, &mut found, key, others)?;
         }
     }
-    push_rest(told, found == *others)
+    push_rest(&mut out, found == *others)?;
+    Ok(out)
 }
 
 // Appends the key and its value, where it has one, and notes it as found.
 fn push_other(
-    told: &mut String,
+    alloc: Global,
+    out: &mut String,
     found: &mut Properties,
     key: PropertiesKey,
     others: &Properties,
 ) -> Mem<()> {
-    match others.get(&key) {
-        Some(value) => push_found(told, found, key, value),
-        None => Ok(()),
-    }
-}
-
-fn push_found(
-    told: &mut String,
-    found: &mut Properties,
-    key: PropertiesKey,
-    value: &str,
-) -> Mem<()> {
-    let gap = if told.is_empty() { "" } else { " " };
-    write!(told, "{gap}{key}={value}")?;
-    let value = String::from_str(*told.allocator(), value)?;
-    found.insert(key, value)
+    let Some(value) = others.get(&key) else {
+        return Ok(());
+    };
+    let gap = if out.is_empty() { "" } else { " " };
+    write!(out, "{gap}{key}={value}")?;
+    found.insert(key, text(alloc, value)?)
 }
 
 // Whether two files with a selected profile each give equal sections.
-fn equal(alloc: Global, name: &str, file: &str, other_name: &str, other_file: &str) -> Mem<String> {
-    match &sections_of(alloc, name, &[file]) {
-        Ok(sections) => equal_to(alloc, sections, other_name, other_file),
-        Err(fault) => fault_told(alloc, fault),
+fn equal(alloc: Global, words: &[&str]) -> Mem<String> {
+    match &sections_of(alloc, word(words, 0), &[word(words, 1)]) {
+        Ok(sections) => equal_to(alloc, sections, word(words, 2), word(words, 3)),
+        Err(fault) => fault_text(alloc, fault),
     }
 }
 
 fn equal_to(alloc: Global, sections: &EnvConfigSections, name: &str, file: &str) -> Mem<String> {
     match &sections_of(alloc, name, &[file]) {
         Ok(others) => text(alloc, if sections == others { "yes" } else { "no" }),
-        Err(fault) => fault_told(alloc, fault),
+        Err(fault) => fault_text(alloc, fault),
     }
 }
 
 // A copy of a profile with one property, and the value of the key that is asked for.
-fn profile(alloc: Global, name: &str, key: &str, value: &str, asked: &str) -> Mem<String> {
-    let properties = one_property(alloc, key, value)?;
-    let profile = Profile::new(text(alloc, name)?, properties);
-    profile_told(alloc, &profile.try_clone()?, asked)
+fn profile(alloc: Global, words: &[&str]) -> Mem<String> {
+    let mut properties = BTreeMap::new(alloc);
+    insert_property(alloc, &mut properties, word(words, 1), word(words, 2))?;
+    let profile = Profile::new(text(alloc, word(words, 0))?, properties).try_clone()?;
+    let mut out = String::new(alloc);
+    push_profile(alloc, &mut out, &profile, word(words, 3))?;
+    Ok(out)
 }
 
-fn profile_told(alloc: Global, profile: &Profile, asked: &str) -> Mem<String> {
-    let mut told = String::new(alloc);
-    push_profile(alloc, &mut told, profile, asked)?;
-    Ok(told)
+fn property_text(alloc: Global, property: &Property) -> Mem<String> {
+    let (key, value) = (property.key(), property.value());
+    format!(in alloc; "{key}={value}")
 }
 
 // The value of a key in a copy of the session.
-fn copied_session(alloc: Global, session: Option<&SsoSession>, key: &str) -> Mem<String> {
+fn session_text(alloc: Global, session: Option<&SsoSession>, key: &str) -> Mem<String> {
     match session {
-        Some(session) => word_of(alloc, session.try_clone()?.get(key)),
+        Some(session) => text(alloc, session.try_clone()?.get(key).unwrap_or("-")),
         None => text(alloc, "no session"),
     }
 }
 
-fn one_property(alloc: Global, key: &str, value: &str) -> Mem<BTreeMap<String, Property>> {
-    let mut properties = BTreeMap::new(alloc);
-    insert_property(alloc, &mut properties, key, value)?;
-    Ok(properties)
-}
-
-// The profile and the files of a source, as words give them.
-pub fn source_told(alloc: Global, source: &Source) -> Mem<String> {
-    let profile = source.profile.as_str();
-    let mut told = format!(in alloc; "profile {profile}")?;
-    for file in &source.files {
-        told.push_str(" | ")?;
-        push_file(&mut told, file)?;
-    }
-    Ok(told)
-}
-
-fn file_told(alloc: Global, file: &File) -> Mem<String> {
-    let mut told = String::new(alloc);
-    push_file(&mut told, file)?;
-    Ok(told)
+fn file_text(alloc: Global, file: &File) -> Mem<String> {
+    let mut out = String::new(alloc);
+    push_file(&mut out, file)?;
+    Ok(out)
 }

@@ -5,34 +5,30 @@ use smithy_core::Mem;
 use std::alloc::Global;
 use std::collections::BTreeMap;
 
-// Appends each profile and each session with those of the keys that it has, and tells whether there are other sections.
-pub fn push_sections(
-    alloc: Global,
-    told: &mut String,
-    sections: &EnvConfigSections,
-    keys: &str,
-) -> Mem<()> {
-    push_profiles(alloc, told, sections, keys)?;
-    push_sessions(alloc, told, sections, keys)?;
-    if *sections.other_sections() == Properties::new(alloc) {
-        return Ok(());
+// Each profile and each session with those of the keys that it has, and whether there are other sections.
+pub fn sections_text(alloc: Global, sections: &EnvConfigSections, keys: &str) -> Mem<String> {
+    let mut out = String::new(alloc);
+    push_profiles(alloc, &mut out, sections, keys)?;
+    push_sessions(alloc, &mut out, sections, keys)?;
+    if *sections.other_sections() != Properties::new(alloc) {
+        out.push_str(" others")?;
     }
-    told.push_str(" others")
+    Ok(out)
 }
 
 fn push_profiles(
     alloc: Global,
-    told: &mut String,
+    out: &mut String,
     sections: &EnvConfigSections,
     keys: &str,
 ) -> Mem<()> {
     if sections.is_empty() {
-        return told.push_str("no profiles");
+        return out.push_str("no profiles");
     }
     for name in sections.profiles() {
         match sections.get_profile(name.as_str()) {
-            Some(profile) => push_profile(alloc, told, profile, keys)?,
-            None => told.push_str("no profile")?,
+            Some(profile) => push_profile(alloc, out, profile, keys)?,
+            None => out.push_str("no profile")?,
         }
     }
     Ok(())
@@ -40,38 +36,38 @@ fn push_profiles(
 
 fn push_sessions(
     alloc: Global,
-    told: &mut String,
+    out: &mut String,
     sections: &EnvConfigSections,
     keys: &str,
 ) -> Mem<()> {
     for name in sections.sso_sessions() {
         match sections.sso_session(name.as_str()) {
-            Some(session) => push_session(alloc, told, session, name.as_str(), keys)?,
-            None => told.push_str("no session")?,
+            Some(session) => push_session(alloc, out, session, name.as_str(), keys)?,
+            None => out.push_str("no session")?,
         }
     }
     Ok(())
 }
 
 // Appends `[NAME] KEY=VALUE ..`.
-pub fn push_profile(alloc: Global, told: &mut String, profile: &Profile, keys: &str) -> Mem<()> {
-    push_front(told, "[", profile.name())?;
+pub fn push_profile(alloc: Global, out: &mut String, profile: &Profile, keys: &str) -> Mem<()> {
+    push_front(out, "[", profile.name())?;
     let name = text(alloc, profile.name())?;
-    let found = Profile::new(name, push_values(alloc, told, profile, keys)?);
-    push_rest(told, found == *profile)
+    let found = Profile::new(name, push_values(alloc, out, profile, keys)?);
+    push_rest(out, found == *profile)
 }
 
 // Appends the keys that have values, and gives them.
 fn push_values(
     alloc: Global,
-    told: &mut String,
+    out: &mut String,
     profile: &Profile,
     keys: &str,
 ) -> Mem<BTreeMap<String, Property>> {
     let mut found = BTreeMap::new(alloc);
     for key in keys.split(' ') {
         if let Some(value) = profile.get(key) {
-            push_pair(told, key, value)?;
+            push_pair(out, key, value)?;
             insert_property(alloc, &mut found, key, value)?;
         }
     }
@@ -81,60 +77,38 @@ fn push_values(
 // Appends `[sso-session NAME] KEY=VALUE ..`.
 fn push_session(
     alloc: Global,
-    told: &mut String,
+    out: &mut String,
     session: &SsoSession,
     name: &str,
     keys: &str,
 ) -> Mem<()> {
-    push_front(told, "[sso-session ", name)?;
-    let mut written = format!(in alloc; "config: [sso-session {name}]\n")?;
-    push_session_values(told, &mut written, session, keys)?;
-    push_rest(told, gives_session(alloc, written.as_str(), name, session))
-}
-
-// Appends the keys that have values, and writes them as the lines of a file.
-fn push_session_values(
-    told: &mut String,
-    written: &mut String,
-    session: &SsoSession,
-    keys: &str,
-) -> Mem<()> {
+    push_front(out, "[sso-session ", name)?;
+    let mut file = format!(in alloc; "config: [sso-session {name}]\n")?;
     for key in keys.split(' ') {
         if let Some(value) = session.get(key) {
-            push_session_value(told, written, key, value)?;
+            push_pair(out, key, value)?;
+            write!(file, "{key} = {value}\n")?;
         }
     }
-    Ok(())
-}
-
-fn push_session_value(told: &mut String, written: &mut String, key: &str, value: &str) -> Mem<()> {
-    push_pair(told, key, value)?;
-    write!(written, "{key} = {value}\n")
+    push_rest(out, gives_session(alloc, file.as_str(), name, session))
 }
 
 // Whether a file gives an equal session of this name.
 fn gives_session(alloc: Global, file: &str, name: &str, session: &SsoSession) -> bool {
     match &sections_of(alloc, "default", &[file]) {
-        Ok(sections) => has_session(sections, name, session),
+        Ok(sections) => sections.sso_session(name) == Some(session),
         Err(_) => false,
     }
 }
 
-fn has_session(sections: &EnvConfigSections, name: &str, session: &SsoSession) -> bool {
-    match sections.sso_session(name) {
-        Some(found) => found == session,
-        None => false,
-    }
+fn push_front(out: &mut String, front: &str, name: &str) -> Mem<()> {
+    let gap = if out.is_empty() { "" } else { " " };
+    write!(out, "{gap}{front}{name}]")
 }
 
-fn push_front(told: &mut String, front: &str, name: &str) -> Mem<()> {
-    let gap = if told.is_empty() { "" } else { " " };
-    write!(told, "{gap}{front}{name}]")
-}
-
-fn push_pair(told: &mut String, key: &str, value: &str) -> Mem<()> {
-    write!(told, " {key}=")?;
-    push_visible(told, value)
+pub fn push_pair(out: &mut String, key: &str, value: &str) -> Mem<()> {
+    write!(out, " {key}=")?;
+    push_visible(out, value)
 }
 
 pub fn insert_property(
@@ -153,11 +127,10 @@ pub fn property_of(alloc: Global, key: &str, value: &str) -> Mem<Property> {
     Ok(Property::new(key, text(alloc, value)?))
 }
 
-// Tells of keys beside those that were asked for.
-pub fn push_rest(told: &mut String, is_whole: bool) -> Mem<()> {
+// Says whether there are keys beside those that were asked for.
+pub fn push_rest(out: &mut String, is_whole: bool) -> Mem<()> {
     if is_whole {
-        Ok(())
-    } else {
-        told.push_str(" and others")
+        return Ok(());
     }
+    out.push_str(" and others")
 }

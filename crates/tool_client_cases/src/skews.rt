@@ -1,70 +1,33 @@
 use crate::bags::{moment_of, put};
 use crate::headers::response_of;
-use crate::texts::given;
+use crate::texts::{given, rest, word};
 use aws_intercept::{ConfigBag, ServiceClockSkewInterceptor};
-use smithy_core::{HttpResponse, Mem};
+use smithy_core::Mem;
 use std::alloc::Global;
-use std::fmt;
-use tool_case_lines::unknown;
 
-// The skews, once an interceptor saw an attempt with a bag of these entries.
+// The skews, once an interceptor saw an attempt with a bag of these entries, which have commas between.
 pub fn answer(alloc: Global, bag: &mut ConfigBag, call: &str, words: &[&str]) -> Mem<String> {
-    match (call, words) {
-        ("measure", [entries, sent, received, headers @ ..]) => {
-            fill(alloc, bag, entries)?;
-            measure(alloc, bag, sent, received, headers)
-        }
-        ("begin", [entries, sent]) => {
-            fill(alloc, bag, entries)?;
-            begin(alloc, bag, sent)
-        }
-        _ => unknown(alloc),
-    }
-}
-
-// Puts the entries with commas between.
-fn fill(alloc: Global, bag: &mut ConfigBag, entries: &str) -> Mem<()> {
-    for entry in entries.split(',') {
+    for entry in word(words, 0).split(',') {
         put(alloc, bag, entry)?;
     }
-    Ok(())
+    match call {
+        "begin" => begin(alloc, bag, word(words, 1)),
+        _ => measure(alloc, bag, words),
+    }
 }
 
 // The skews of the response and of the bag, and the one that the next operation begins with, once an attempt was sent,
 // where a moment is given, and its answer received.
-fn measure(
-    alloc: Global,
-    bag: &mut ConfigBag,
-    sent: &str,
-    received: &str,
-    headers: &[&str],
-) -> Mem<String> {
-    let mut response = response_of(alloc, headers)?;
-    let next = measured(alloc, bag, sent, received, &mut response);
-    skews_told(alloc, response.skew, bag.attempt_skew, next)
-}
-
-fn skews_told(
-    alloc: Global,
-    in_response: Option<i64>,
-    in_bag: Option<i64>,
-    next: Option<i64>,
-) -> Mem<String> {
-    let (in_response, in_bag, next) = (Skew(in_response), Skew(in_bag), Skew(next));
-    format!(in alloc; "response {in_response}, bag {in_bag}, next {next}")
-}
-
-fn measured(
-    alloc: Global,
-    bag: &mut ConfigBag,
-    sent: &str,
-    received: &str,
-    response: &mut HttpResponse,
-) -> Option<i64> {
+fn measure(alloc: Global, bag: &mut ConfigBag, words: &[&str]) -> Mem<String> {
+    let mut response = response_of(alloc, rest(words, 3))?;
     let mut interceptor = ServiceClockSkewInterceptor::new();
-    send(&mut interceptor, bag, sent);
-    interceptor.modify_before_deserialization(response, moment_of(received), bag);
-    next_skew(alloc, interceptor)
+    send(&mut interceptor, bag, word(words, 1));
+    interceptor.modify_before_deserialization(&mut response, moment_of(word(words, 2)), bag);
+    let mut out = String::new(alloc);
+    push_skew(&mut out, "response ", response.skew)?;
+    push_skew(&mut out, ", bag ", bag.attempt_skew)?;
+    push_skew(&mut out, ", next ", next_skew(alloc, interceptor))?;
+    Ok(out)
 }
 
 fn send(interceptor: &mut ServiceClockSkewInterceptor, bag: &mut ConfigBag, sent: &str) {
@@ -84,8 +47,10 @@ fn begin(alloc: Global, bag: &mut ConfigBag, sent: &str) -> Mem<String> {
     let mut interceptor = ServiceClockSkewInterceptor::new();
     interceptor.modify_before_retry_loop(bag);
     send(&mut interceptor, bag, sent);
-    let (skew, sent) = (Skew(bag.attempt_skew), Skew(second_sent(bag)));
-    format!(in alloc; "bag {skew}, sent {sent}")
+    let mut out = String::new(alloc);
+    push_skew(&mut out, "bag ", bag.attempt_skew)?;
+    push_skew(&mut out, ", sent ", second_sent(bag))?;
+    Ok(out)
 }
 
 fn second_sent(bag: &ConfigBag) -> Option<i64> {
@@ -95,15 +60,10 @@ fn second_sent(bag: &ConfigBag) -> Option<i64> {
     }
 }
 
-// A number, told as `-` where there is none.
-#[derive(Clone, Copy)]
-struct Skew(Option<i64>);
-
-impl fmt::Display for Skew {
-    fn fmt<W: fmt::Write>(&self, f: &mut fmt::Formatter<W>) -> fmt::Result {
-        match self.0 {
-            Some(number) => write!(f, "{number}"),
-            None => write!(f, "-"),
-        }
+// Appends a number behind its name, `-` where there is none.
+fn push_skew(out: &mut String, name: &str, skew: Option<i64>) -> Mem<()> {
+    match skew {
+        Some(number) => write!(out, "{name}{number}"),
+        None => write!(out, "{name}-"),
     }
 }

@@ -1,19 +1,16 @@
-use crate::headers::request_of;
-use crate::sending::sent_told;
-use crate::texts::given;
+use crate::headers::{headers_text, request_of};
+use crate::texts::{given, rest, word};
 use aws_intercept::{ConfigBag, RecursionDetectionInterceptor};
 use smithy_core::{Env, Mem};
 use std::alloc::Global;
-use tool_case_lines::unknown;
 
 // The headers of a request, once a copy of the interceptor saw it with these values of the two variables.
 pub fn answer(alloc: Global, bag: &mut ConfigBag, words: &[&str]) -> Mem<String> {
-    let [function, trace, headers @ ..] = words else {
-        return unknown(alloc);
-    };
-    let env = env_of(alloc, function, trace)?;
-    let mut copy = RecursionDetectionInterceptor::new(env).try_clone()?;
-    sent(alloc, &mut copy, bag, headers)
+    let env = env_of(alloc, word(words, 0), word(words, 1))?;
+    let mut interceptor = RecursionDetectionInterceptor::new(env).try_clone()?;
+    let mut request = request_of(alloc, rest(words, 2))?;
+    interceptor.modify_before_signing(&mut request, bag)?;
+    headers_text(alloc, &request.headers)
 }
 
 // The function's name and the trace, where they are given.
@@ -26,15 +23,4 @@ fn env_of(alloc: Global, function: &str, trace: &str) -> Mem<Env> {
         env.set("_X_AMZN_TRACE_ID", trace)?;
     }
     Ok(env)
-}
-
-fn sent(
-    alloc: Global,
-    interceptor: &mut RecursionDetectionInterceptor,
-    bag: &mut ConfigBag,
-    headers: &[&str],
-) -> Mem<String> {
-    let mut request = request_of(alloc, headers)?;
-    let sent = interceptor.modify_before_signing(&mut request, bag);
-    sent_told(alloc, sent, &request)
 }

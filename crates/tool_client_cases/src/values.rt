@@ -1,6 +1,6 @@
 use crate::files::sections_of;
-use crate::profiles::fault_told;
-use crate::texts::{env_of, given, printed, text};
+use crate::profiles::fault_text;
+use crate::texts::{env_of, given, printed, text, word};
 use env_config::{
     EnvConfigError, EnvConfigSections, EnvConfigSource, EnvConfigValue, Origin, Os,
     ServiceConfigKey, ValidateFault, get_service_env_config, home_dir,
@@ -9,11 +9,17 @@ use smithy_core::{Env, Mem};
 use std::alloc::Global;
 use tool_case_lines::unknown;
 
+// The home directory of a system, or what a call answers for a value with this file, or with none of it.
 pub fn answer(alloc: Global, call: &str, words: &[&str]) -> Mem<String> {
-    match words {
-        [system, variables] => home_of(alloc, os_of(system), &env_of(alloc, variables)?),
-        [asked, variables, file] => value(alloc, call, asked, &env_of(alloc, variables)?, file),
-        _ => unknown(alloc),
+    let env = env_of(alloc, word(words, 1))?;
+    let (first, file) = (word(words, 0), word(words, 2));
+    match call {
+        "home" => home_of(alloc, os_of(first), &env),
+        _ if file == "-" => value_in(alloc, call, value_of(first), &env, None),
+        _ => match &sections_of(alloc, "default", &[file]) {
+            Ok(sections) => value_in(alloc, call, value_of(first), &env, Some(sections)),
+            Err(fault) => fault_text(alloc, fault),
+        },
     }
 }
 
@@ -32,17 +38,6 @@ fn home_of(alloc: Global, os: Os, env: &Env) -> Mem<String> {
     }
 }
 
-// What a call answers for the value `VARIABLE,KEY,SERVICE` with this file, or `-` for none.
-fn value(alloc: Global, call: &str, asked: &str, env: &Env, file: &str) -> Mem<String> {
-    if file == "-" {
-        return value_in(alloc, call, value_of(asked), env, None);
-    }
-    match &sections_of(alloc, "default", &[file]) {
-        Ok(sections) => value_in(alloc, call, value_of(asked), env, Some(sections)),
-        Err(fault) => fault_told(alloc, fault),
-    }
-}
-
 fn value_in(
     alloc: Global,
     call: &str,
@@ -56,18 +51,27 @@ fn value_in(
         "refuse" => checked(alloc, value.validate(alloc, env, sections, refuses)),
         "reason" => reason(alloc, value.validate(alloc, env, sections, refuses)),
         "origin" => origin(alloc, value, env, sections),
-        "service" => service(alloc, env, sections),
+        "service" => checked(
+            alloc,
+            get_service_env_config(alloc, &REGION, env, sections, accepts),
+        ),
         _ => unknown(alloc),
     }
 }
 
+// The region of a service.
+const REGION: ServiceConfigKey<'static> = ServiceConfigKey {
+    env: "AWS_REGION",
+    profile: "region",
+    service_id: "Dynamo DB",
+};
+
+// The value `VARIABLE,KEY,SERVICE`.
 fn value_of<'a>(asked: &'a str) -> EnvConfigValue<'a> {
     let (variable, others) = asked.split_once(',').unwrap_or((asked, "-"));
     let (key, service) = others.split_once(',').unwrap_or((others, "-"));
-    with_service(
-        with_key(with_variable(EnvConfigValue::new(), variable), key),
-        service,
-    )
+    let value = with_variable(EnvConfigValue::new(), variable);
+    with_service(with_key(value, key), service)
 }
 
 fn with_variable<'a>(value: EnvConfigValue<'a>, word: &'a str) -> EnvConfigValue<'a> {
@@ -98,14 +102,14 @@ fn load(
     env: &Env,
     sections: Option<&EnvConfigSections>,
 ) -> Mem<String> {
-    match value.load(alloc, env, sections)? {
-        Some((value, source)) => place_told(alloc, value.as_str(), &source.try_clone()?),
+    match &value.load(alloc, env, sections)? {
+        Some((value, source)) => place_text(alloc, value.as_str(), source),
         None => text(alloc, "-"),
     }
 }
 
-fn place_told(alloc: Global, value: &str, source: &EnvConfigSource) -> Mem<String> {
-    let origin = Origin::from(source);
+fn place_text(alloc: Global, value: &str, source: &EnvConfigSource) -> Mem<String> {
+    let (origin, source) = (Origin::from(source), source.try_clone()?);
     format!(in alloc; "{value} ({origin:?}) {source}")
 }
 
@@ -125,9 +129,15 @@ fn checked(
     answer: Result<Option<usize>, ValidateFault<&'static str>>,
 ) -> Mem<String> {
     match answer {
-        Ok(Some(length)) => format!(in alloc; "{length}"),
-        Ok(None) => text(alloc, "-"),
-        Err(fault) => printed(alloc, &fault.try_clone()?),
+        Ok(length) => length_text(alloc, length),
+        Err(fault) => printed(alloc, fault.try_clone()),
+    }
+}
+
+fn length_text(alloc: Global, length: Option<usize>) -> Mem<String> {
+    match length {
+        Some(length) => printed(alloc, Ok(length)),
+        None => text(alloc, "-"),
     }
 }
 
@@ -136,14 +146,14 @@ fn reason(
     alloc: Global,
     answer: Result<Option<usize>, ValidateFault<&'static str>>,
 ) -> Mem<String> {
-    match answer {
-        Err(ValidateFault::Invalid(error)) => reason_told(alloc, &error),
+    match &answer {
+        Err(ValidateFault::Invalid(error)) => reason_text(alloc, error),
         _ => text(alloc, "-"),
     }
 }
 
-fn reason_told(alloc: Global, error: &EnvConfigError<&'static str>) -> Mem<String> {
-    let (copy, err) = (error.try_clone()?, error.err());
+fn reason_text(alloc: Global, error: &EnvConfigError<&'static str>) -> Mem<String> {
+    let (err, copy) = (error.err(), error.try_clone()?);
     format!(in alloc; "{err} | {copy}")
 }
 
@@ -155,27 +165,10 @@ fn origin(
     sections: Option<&EnvConfigSections>,
 ) -> Mem<String> {
     match value.validate_and_return_origin(alloc, env, sections, accepts) {
-        Ok((length, origin)) => origin_told(alloc, length, &origin),
-        Err(fault) => fault.to_string(alloc),
+        Ok((length, origin)) => {
+            let length = length_text(alloc, length)?;
+            format!(in alloc; "{length} ({origin:?})")
+        }
+        Err(fault) => printed(alloc, Ok(fault)),
     }
-}
-
-fn origin_told(alloc: Global, length: Option<usize>, origin: &Origin) -> Mem<String> {
-    match length {
-        Some(length) => format!(in alloc; "{length} ({origin:?})"),
-        None => format!(in alloc; "- ({origin:?})"),
-    }
-}
-
-// The region of the service.
-fn service(alloc: Global, env: &Env, sections: Option<&EnvConfigSections>) -> Mem<String> {
-    let key = ServiceConfigKey {
-        env: "AWS_REGION",
-        profile: "region",
-        service_id: "Dynamo DB",
-    };
-    checked(
-        alloc,
-        get_service_env_config(alloc, &key, env, sections, accepts),
-    )
 }

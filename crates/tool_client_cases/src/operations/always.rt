@@ -3,7 +3,7 @@ use operation_run::{Reply, SendFault, Transport};
 use smithy_core::{Headers, HttpRequest, HttpResponse};
 use std::alloc::Global;
 
-/// Answers 200 to each request, and tells nothing.
+/// Answers 200 to each request, and shows contracts nothing.
 #[derive(Drop)]
 pub struct Always {
     pub alloc: Global,

@@ -1,105 +1,137 @@
-//! What an operation is given beside its bag and its transport.
+//! What an operation is given.
+use crate::bags::{self, moment_of};
+use crate::ids::push_id;
+use crate::operations::replies::reply_of;
+use crate::texts::{text, word};
 use aws_auth::{HttpSignatureType, SigV4OperationSigningConfig, SigningOptions};
-use aws_intercept::{InvocationId, PredefinedInvocationIdGenerator};
+use aws_intercept::{AwsUserAgent, ConfigBag, InvocationId};
 use bytes::Bytes;
+use operation_run::Reply;
 use smithy_core::{
     Credentials, Env, HttpRequest, Identity, ListClock, Mem, Moment, Region, SigningName,
 };
 use std::alloc::Global;
-use tool_case_lines::{bytes_of_hex, halves, number, part};
+use tool_case_lines::{bytes_of_hex, halves};
 
-/// The request with the headers of each `header NAME VALUE` and the body of `body DIGITS`.
-pub fn request_of(alloc: Global, method: &str, target: &str, parts: &[&str]) -> Mem<HttpRequest> {
-    let mut request = HttpRequest::new(alloc, method, target)?;
-    for word in parts {
-        if let ("header", pair) = halves(word) {
-            let (name, value) = pair.split_once('=').unwrap_or((pair, ""));
-            request.headers.append(name, value)?;
-        }
-    }
-    let digits = part(parts, "body").unwrap_or("");
-    request.body = Bytes::from_vec(bytes_of_hex(alloc, digits)?)?;
-    Ok(request)
+/// What an operation is given beside its bag.
+pub struct Given {
+    pub request: HttpRequest,
+    pub identity: Identity,
+    pub config: SigV4OperationSigningConfig,
+    pub env: Env,
+    /// The ids that the generator gives in order.
+    pub ids: Vec<InvocationId>,
+    /// The moments that the clock gives in order.
+    pub moments: Vec<Moment>,
+    /// What the transport replies in order.
+    pub replies: Vec<Reply>,
+    /// The moments that were taken.
+    pub taken: Vec<Moment>,
 }
 
-/// The keys of the AWS signing test suite, with the token of `token TEXT`; or the token alone of `bearer TEXT`.
-pub fn identity_of(alloc: Global, parts: &[&str]) -> Mem<Identity> {
-    if let Some(text) = part(parts, "bearer") {
-        return Ok(Identity::Token(String::from_str(alloc, text)?));
+// Written out: a derived drop would be taken apart in the proof of each function that drops one.
+impl Drop for Given {
+    fn drop(self) {
+        let Given {
+            request,
+            identity,
+            config,
+            env,
+            ids,
+            moments,
+            replies,
+            taken,
+        } = self;
+        drop(request);
+        drop(identity);
+        drop(config);
+        drop(env);
+        drop(ids);
+        drop(moments);
+        drop(replies);
+        drop(taken);
     }
-    let token = match part(parts, "token") {
-        Some(token) => Some(String::from_str(alloc, token)?),
-        None => None,
-    };
-    let secret = "wJalrXUtnFEMI/K7MDENG+bPxRfiCYEXAMPLEKEY";
-    Ok(Identity::Credentials(Credentials::new(
-        String::from_str(alloc, "AKIDEXAMPLE")?,
-        String::from_str(alloc, secret)?,
-        token,
-        None,
-    )))
 }
 
-/// The config for the service `service` in `us-east-1`, in query form where `query` stands, with an expiry after `query SECONDS`.
-pub fn config_of(alloc: Global, parts: &[&str]) -> Mem<SigV4OperationSigningConfig> {
-    let mut options = SigningOptions::default();
-    if let Some(seconds) = part(parts, "query") {
-        options.signature_type = HttpSignatureType::HttpRequestQueryParams;
-        options.expires_in = seconds.parse().ok();
+/// What the words give, and the bag with its entries: the keys of the AWS signing test suite, the service `service` in
+/// `us-east-1`, and the agent for tests.
+pub fn given_of(alloc: Global, bag: &mut ConfigBag, method: &str, words: &[&str]) -> Mem<Given> {
+    bag.user_agent = Some(AwsUserAgent::for_tests(alloc)?);
+    let mut given = plain(alloc, method, word(words, 0))?;
+    for part in words.iter().skip(1) {
+        put(alloc, &mut given, bag, part)?;
     }
-    Ok(SigV4OperationSigningConfig {
-        region: Some(Region::new(String::from_str(alloc, "us-east-1")?)),
-        name: Some(SigningName::new(String::from_str(alloc, "service")?)),
-        signing_options: options,
-    })
+    Ok(given)
 }
 
-/// The variables of each `env NAME=VALUE`.
-pub fn env_of(alloc: Global, parts: &[&str]) -> Mem<Env> {
-    let mut env = Env::new(alloc);
-    for word in parts {
-        if let ("env", pair) = halves(word) {
-            let (name, value) = pair.split_once('=').unwrap_or((pair, ""));
-            env.set(name, value)?;
-        }
-    }
-    Ok(env)
-}
-
-/// The clock that gives the moments of each `at SECONDS NANOSECONDS` in order, or second 0 where there are none.
-pub fn clock_of(alloc: Global, parts: &[&str]) -> Mem<ListClock> {
-    let mut moments = Vec::new(alloc);
-    for word in parts {
-        if let ("at", moment) = halves(word) {
-            moments.push(moment_of(moment))?;
-        }
-    }
+/// The clock that gives these moments, or second 0 where there are none.
+pub fn clock_of(mut moments: Vec<Moment>) -> Mem<ListClock> {
     if moments.is_empty() {
         moments.push(Moment::new(0, 0))?;
     }
     Ok(ListClock::new(moments))
 }
 
-fn moment_of(word: &str) -> Moment {
-    let (secs, nanos) = halves(word);
-    let nanos: u32 = nanos.parse().unwrap_or(0);
-    Moment::new(number(secs), nanos % 1_000_000_000)
+fn plain(alloc: Global, method: &str, target: &str) -> Mem<Given> {
+    let identity = identity_of(alloc, None)?;
+    let config = example_config(alloc)?;
+    let request = HttpRequest::new(alloc, method, target)?;
+    Ok(Given {
+        request,
+        identity,
+        config,
+        env: Env::new(alloc),
+        ids: Vec::new(alloc),
+        moments: Vec::new(alloc),
+        replies: Vec::new(alloc),
+        taken: Vec::new(alloc),
+    })
 }
 
-/// The generator of each `id TEXT` in order.
-pub fn ids_of(alloc: Global, parts: &[&str]) -> Mem<PredefinedInvocationIdGenerator> {
-    let mut ids = Vec::new(alloc);
-    for word in parts {
-        if let ("id", text) = halves(word) {
-            push_id(alloc, &mut ids, text)?;
+fn identity_of(alloc: Global, token: Option<String>) -> Mem<Identity> {
+    let key_id = text(alloc, "AKIDEXAMPLE")?;
+    let secret = text(alloc, "wJalrXUtnFEMI/K7MDENG+bPxRfiCYEXAMPLEKEY")?;
+    Ok(Identity::Credentials(Credentials::new(key_id, secret, token, None)))
+}
+
+fn example_config(alloc: Global) -> Mem<SigV4OperationSigningConfig> {
+    let region = Region::from_str(alloc, "us-east-1")?;
+    let name = SigningName::from_str(alloc, "service")?;
+    Ok(SigV4OperationSigningConfig {
+        region: Some(region),
+        name: Some(name),
+        signing_options: SigningOptions::default(),
+    })
+}
+
+// Puts `header NAME=VALUE`, `env NAME=VALUE`, `body DIGITS`, `id TEXT`, `at SECONDS NANOSECONDS`, a reply, or else what signs.
+fn put(alloc: Global, given: &mut Given, bag: &mut ConfigBag, part: &str) -> Mem<()> {
+    let (kind, value) = halves(part);
+    let (name, rest) = value.split_once('=').unwrap_or((value, ""));
+    match kind {
+        "header" => given.request.headers.append(name, rest)?,
+        "env" => given.env.set(name, rest)?,
+        "body" => given.request.body = Bytes::from_vec(bytes_of_hex(alloc, value)?)?,
+        "id" => push_id(alloc, &mut given.ids, value)?,
+        "at" => given.moments.push(moment_of(value))?,
+        "reply" => given.replies.push(reply_of(alloc, value)?)?,
+        "no-agent" => bag.user_agent = None,
+        "token" | "bearer" | "query" => put_signing(alloc, given, kind, value)?,
+        _ => bags::put(alloc, bag, part)?,
+    }
+    Ok(())
+}
+
+// Puts `token TEXT` of the keys, `bearer TEXT` in place of them, or the query form with an expiry after `query SECONDS`.
+fn put_signing(alloc: Global, given: &mut Given, kind: &str, value: &str) -> Mem<()> {
+    match kind {
+        "token" => given.identity = identity_of(alloc, Some(text(alloc, value)?))?,
+        "bearer" => given.identity = Identity::Token(text(alloc, value)?),
+        _ => {
+            let options = &mut given.config.signing_options;
+            options.signature_type = HttpSignatureType::HttpRequestQueryParams;
+            options.expires_in = value.parse().ok();
         }
     }
-    Ok(PredefinedInvocationIdGenerator::new(ids))
-}
-
-fn push_id(alloc: Global, ids: &mut Vec<InvocationId>, text: &str) -> Mem<()> {
-    match InvocationId::new(String::from_str(alloc, text)?) {
-        Ok(id) => Ok(ids.push(id)?),
-        Err(_) => Ok(()),
-    }
+    Ok(())
 }

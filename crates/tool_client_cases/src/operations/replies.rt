@@ -1,32 +1,23 @@
 //! The replies of a transport.
+use crate::texts::given_text;
 use operation_run::Reply;
 use smithy_core::{ErrorMetadata, Headers, HttpResponse, Mem};
 use std::alloc::Global;
-use tool_case_lines::{halves, number};
+use tool_case_lines::halves;
 
-/// The replies `reply STATUS CODE SKEW`, each with what follows the second `|`: `NAME VALUE` of a header, with `|` between two.
-pub fn replies_of(alloc: Global, parts: &[&str]) -> Mem<Vec<Reply>> {
-    let mut replies = Vec::new(alloc);
-    for part in parts {
-        if let ("reply", said) = halves(part) {
-            replies.push(reply_of(alloc, said)?)?;
-        }
-    }
-    Ok(replies)
-}
-
-fn reply_of(alloc: Global, said: &str) -> Mem<Reply> {
+/// The reply `STATUS CODE SKEW`, with what follows the first `|`: `NAME VALUE` of a header, with `|` between two.
+pub fn reply_of(alloc: Global, said: &str) -> Mem<Reply> {
     let (line, headers) = said.split_once('|').unwrap_or((said, ""));
     let (status, rest) = halves(line);
     let (code, skew) = halves(rest);
-    Ok(Reply {
-        response: HttpResponse {
-            status: status.parse().unwrap_or(0),
-            headers: headers_of(alloc, headers)?,
-            skew: skew_of(skew),
-        },
-        error: error_of(alloc, code)?,
-    })
+    let error = error_of(alloc, code)?;
+    let headers = headers_of(alloc, headers)?;
+    let response = HttpResponse {
+        status: status.parse().unwrap_or(0),
+        headers,
+        skew: skew.parse().ok(),
+    };
+    Ok(Reply { response, error })
 }
 
 fn headers_of(alloc: Global, said: &str) -> Mem<Headers> {
@@ -39,18 +30,11 @@ fn headers_of(alloc: Global, said: &str) -> Mem<Headers> {
     Ok(headers)
 }
 
-fn skew_of(said: &str) -> Option<i64> {
-    match said {
-        "-" => None,
-        _ => Some(number(said)),
-    }
-}
-
 fn error_of(alloc: Global, code: &str) -> Mem<Option<ErrorMetadata>> {
-    match code {
-        "-" => Ok(None),
-        _ => Ok(Some(ErrorMetadata {
-            code: Some(String::from_str(alloc, code)?),
+    match given_text(alloc, code)? {
+        None => Ok(None),
+        code => Ok(Some(ErrorMetadata {
+            code,
             message: None,
         })),
     }
