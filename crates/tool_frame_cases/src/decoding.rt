@@ -1,9 +1,7 @@
-ghost use Rattle.std.specs.Prelude.{◌<◌};
-
-use crate::segments::{left, push};
-use crate::shown::{digits, message, push_given};
-use crate::steps::{Steps, answers_of};
-use crate::words::{bytes_of, shared};
+use crate::segments::{left, push_piece};
+use crate::shown::{Shown, copy_shown, debugged, digits, push};
+use crate::steps::{Steps, all_answers};
+use crate::words::{bytes_of, shared, word};
 use bytes::Bytes;
 use eventstream::{DecodedFrame, Error, MessageFrameDecoder};
 use seg_buf::SegBuf;
@@ -20,9 +18,9 @@ struct Stream {
 
 // The answers of these steps of one decoder on one buffer.
 pub fn answer(alloc: Global, steps: &[&str]) -> Mem<String> {
-    match steps {
-        ["in_pieces", bytes] => in_pieces(alloc, bytes_of(alloc, bytes)?.as_slice()),
-        _ => answers_of(alloc, &mut new_stream(alloc), steps),
+    match word(steps, 0) {
+        "in_pieces" => in_pieces(alloc, bytes_of(alloc, word(steps, 1))?),
+        _ => all_answers(alloc, new_stream(alloc), steps),
     }
 }
 
@@ -35,36 +33,33 @@ fn new_stream(alloc: Global) -> Stream {
 
 impl Steps for Stream {
     fn after(&mut self, alloc: Global, step: &str) -> Mem<String> {
-        match halves(step) {
-            ("push", bytes) => push(alloc, &mut self.buffer, shared(alloc, bytes)?),
-            ("push_each", bytes) => push_each(alloc, self, bytes_of(alloc, bytes)?.as_slice()),
-            (step, _) => after_bare(alloc, self, step),
+        let (step, bytes) = halves(step);
+        match step {
+            "push" => push_piece(alloc, &mut self.buffer, shared(alloc, bytes)?),
+            "push_each" => push_each(alloc, self, bytes_of(alloc, bytes)?),
+            "decode" => decode(alloc, self),
+            "decode_all" => decode_all(alloc, self),
+            "end" => debugged(alloc, &self.decoder.end(&self.buffer)),
+            "left" => left(alloc, &self.buffer),
+            _ => prelude(alloc, self),
         }
     }
 }
 
-// A step of a name alone.
-fn after_bare(alloc: Global, stream: &mut Stream, step: &str) -> Mem<String> {
-    match step {
-        "decode" => decode(alloc, stream),
-        "decode_all" => decode_all(alloc, stream),
-        "end" => end(alloc, stream),
-        "left" => left(alloc, &stream.buffer),
-        "prelude" => prelude(alloc, stream),
-        _ => String::from_str(alloc, "no such step"),
+impl Shown for DecodedFrame {
+    fn shown(&self, alloc: Global) -> Mem<String> {
+        match self {
+            DecodedFrame::Complete(decoded) => decoded.shown(alloc),
+            DecodedFrame::Incomplete => String::from_str(alloc, "Incomplete"),
+        }
     }
 }
 
 fn decode(alloc: Global, stream: &mut Stream) -> Mem<String> {
     match stream.decoder.decode_frame(alloc, &mut stream.buffer) {
-        Ok(decoded) => answered_copy(alloc, &decoded),
+        Ok(decoded) => copy_shown(alloc, decoded.try_clone()),
         Err(error) => error.to_string(alloc),
     }
-}
-
-fn answered_copy(alloc: Global, decoded: &DecodedFrame) -> Mem<String> {
-    let copy = decoded.try_clone()?;
-    answered(alloc, &copy)
 }
 
 // What the decoder takes in one call: the messages, and the fault that comes then.
@@ -73,39 +68,28 @@ fn decode_all(alloc: Global, stream: &mut Stream) -> Mem<String> {
     let decoded = stream
         .decoder
         .decode_all(alloc, &mut stream.buffer, &mut messages);
-    taken(alloc, messages.as_slice(), decoded)
+    taken(alloc, messages.as_slice(), &decoded)
 }
 
-fn taken(alloc: Global, messages: &[Message], decoded: Result<(), Error>) -> Mem<String> {
-    let mut answers = format!(in alloc; "{} taken", messages.len())?;
-    push_messages(alloc, &mut answers, messages)?;
-    push_fault(&mut answers, decoded)?;
+fn taken(alloc: Global, messages: &[Message], decoded: &Result<(), Error>) -> Mem<String> {
+    let mut answers = String::new(alloc);
+    push_taken(alloc, &mut answers, messages, decoded)?;
     Ok(answers)
 }
 
-fn push_messages(alloc: Global, answers: &mut String, messages: &[Message]) -> Mem<()> {
-    for taken in messages {
-        push_given(answers, message(alloc, taken))?;
+fn push_taken(
+    alloc: Global,
+    answers: &mut String,
+    messages: &[Message],
+    decoded: &Result<(), Error>,
+) -> Mem<()> {
+    write!(answers, "{} taken", messages.len())?;
+    for message in messages {
+        push(answers, message.shown(alloc))?;
     }
-    Ok(())
-}
-
-fn push_fault(answers: &mut String, decoded: Result<(), Error>) -> Mem<()> {
     match decoded {
         Ok(()) => Ok(()),
-        Err(error) => write!(answers, " | {error}"),
-    }
-}
-
-fn end(alloc: Global, stream: &Stream) -> Mem<String> {
-    let end = stream.decoder.end(&stream.buffer);
-    format!(in alloc; "{end:?}")
-}
-
-fn answered(alloc: Global, decoded: &DecodedFrame) -> Mem<String> {
-    match decoded {
-        DecodedFrame::Complete(decoded) => message(alloc, decoded),
-        DecodedFrame::Incomplete => String::from_str(alloc, "Incomplete"),
+        Err(error) => push(answers, error.to_string(alloc)),
     }
 }
 
@@ -117,10 +101,10 @@ fn prelude(alloc: Global, stream: &Stream) -> Mem<String> {
 }
 
 // The messages of a stream in pieces of each size, if these are the same at every size.
-fn in_pieces(alloc: Global, bytes: &[u8]) -> Mem<String> {
-    let whole = in_pieces_of(alloc, bytes, bytes.len())?;
+fn in_pieces(alloc: Global, bytes: Vec<u8>) -> Mem<String> {
+    let whole = in_pieces_of(alloc, bytes.as_slice(), bytes.len())?;
     for size in 1..bytes.len() {
-        let messages = in_pieces_of(alloc, bytes, size)?;
+        let messages = in_pieces_of(alloc, bytes.as_slice(), size)?;
         if messages.as_str() != whole.as_str() {
             return format!(in alloc; "in pieces of {size}: {messages}");
         }
@@ -132,9 +116,7 @@ fn in_pieces(alloc: Global, bytes: &[u8]) -> Mem<String> {
 fn in_pieces_of(alloc: Global, bytes: &[u8], size: usize) -> Mem<String> {
     let mut stream = new_stream(alloc);
     let mut answers = String::new(alloc);
-    if size > 0 {
-        push_pieces(alloc, &mut answers, &mut stream, bytes, size)?;
-    }
+    push_pieces(alloc, &mut answers, &mut stream, bytes, size)?;
     Ok(answers)
 }
 
@@ -144,20 +126,18 @@ fn push_pieces(
     stream: &mut Stream,
     bytes: &[u8],
     size: usize,
-) -> Mem<()>
-    requires { 0 < size }
-{
-    for piece in bytes.chunks(size) {
-        push_piece(alloc, answers, stream, piece)?;
+) -> Mem<()> {
+    for piece in bytes.chunks(size.max(1)) {
+        push_bytes(alloc, answers, stream, piece)?;
         decode_each(alloc, answers, stream)?;
     }
-    push_given(answers, left(alloc, &stream.buffer))?;
-    push_given(answers, prelude(alloc, stream))
+    push(answers, left(alloc, &stream.buffer))?;
+    push(answers, prelude(alloc, stream))
 }
 
-fn push_piece(alloc: Global, answers: &mut String, stream: &mut Stream, piece: &[u8]) -> Mem<()> {
+fn push_bytes(alloc: Global, answers: &mut String, stream: &mut Stream, piece: &[u8]) -> Mem<()> {
     let piece = Bytes::copy_from_slice(alloc, piece)?;
-    push_given(answers, push(alloc, &mut stream.buffer, piece))
+    push(answers, push_piece(alloc, &mut stream.buffer, piece))
 }
 
 // The messages that are there whole, or those before a fault and the fault, one call for each.
@@ -165,25 +145,25 @@ fn decode_each(alloc: Global, answers: &mut String, stream: &mut Stream) -> Mem<
     for _ in 0..stream.buffer.remaining() {
         match stream.decoder.decode_frame(alloc, &mut stream.buffer) {
             Ok(DecodedFrame::Incomplete) => return Ok(()),
-            Ok(decoded) => push_given(answers, answered(alloc, &decoded))?,
-            Err(error) => return push_given(answers, error.to_string(alloc)),
+            Ok(decoded) => push(answers, decoded.shown(alloc))?,
+            Err(error) => return push(answers, error.to_string(alloc)),
         }
     }
     Ok(())
 }
 
 // What the decoder answers after each byte: how often `Incomplete`, and then the other answer.
-fn push_each(alloc: Global, stream: &mut Stream, bytes: &[u8]) -> Mem<String> {
+fn push_each(alloc: Global, stream: &mut Stream, bytes: Vec<u8>) -> Mem<String> {
     let mut answers = String::new(alloc);
     let mut waits = 0u32;
-    for byte in bytes {
-        push_piece(alloc, &mut answers, stream, [*byte].as_slice())?;
+    for byte in &bytes {
+        push_bytes(alloc, &mut answers, stream, [*byte].as_slice())?;
         waits = push_decoded(&mut answers, waits, decode(alloc, stream)?.as_str())?;
     }
     Ok(answers)
 }
 
-// Counts one answer `Incomplete` more, or tells how many there were and the other answer.
+// Counts one answer `Incomplete` more, or writes how many there were and the other answer.
 fn push_decoded(answers: &mut String, waits: u32, answer: &str) -> Mem<u32> {
     if answer == "Incomplete" {
         return Ok(waits.saturating_add(1));

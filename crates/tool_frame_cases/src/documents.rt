@@ -1,52 +1,41 @@
-use crate::shown::push_given;
+use crate::shown::{copy_debugged, debugged, push};
+use crate::words::{parted, word, words_from};
 use smithy_core::{Document, Mem};
 use std::alloc::Global;
-use tool_case_lines::{halves, unknown};
+use tool_case_lines::halves;
 
-pub fn answer(alloc: Global, call: &[&str]) -> Mem<String> {
+pub fn answer(alloc: Global, call: &str, words: &[&str]) -> Mem<String> {
+    let (front, last) = parted(words);
     match call {
-        ["copied", name, items @ ..] => copied(alloc, name, items),
-        [call, words @ .., keys] => values_of(alloc, call, words, keys),
-        _ => unknown(alloc),
-    }
-}
-
-fn values_of(alloc: Global, call: &str, words: &[&str], keys: &str) -> Mem<String> {
-    match call {
-        "get" => values(alloc, &object_of(alloc, words)?, keys),
-        "get_of_array" => values(alloc, &array_of(alloc, words)?, keys),
-        _ => unknown(alloc),
+        "get" => values(alloc, object_of(alloc, front)?, last),
+        "get_of_array" => values(alloc, array_of(alloc, front)?, last),
+        _ => copied(
+            alloc,
+            word(words, 0),
+            array_of(alloc, words_from(words, 1))?,
+        ),
     }
 }
 
 // The values of the names between spaces.
-fn values(alloc: Global, document: &Document, keys: &str) -> Mem<String> {
+fn values(alloc: Global, document: Document, keys: &str) -> Mem<String> {
     let mut answers = String::new(alloc);
     for key in keys.split(' ') {
-        push_given(&mut answers, value(alloc, document, key))?;
+        push(&mut answers, debugged(alloc, &document.get(key)))?;
     }
     Ok(answers)
 }
 
-fn value(alloc: Global, document: &Document, key: &str) -> Mem<String> {
-    format!(in alloc; "{:?}", document.get(key))
-}
-
-// A copy of an object whose one member is an array.
-fn copied(alloc: Global, name: &str, items: &[&str]) -> Mem<String> {
+// A copy of an object with one member.
+fn copied(alloc: Global, name: &str, value: Document) -> Mem<String> {
     let mut members = Vec::new(alloc);
-    members.push(member(alloc, name, array_of(alloc, items))?)?;
-    document_copy(alloc, &Document::Object(members))
+    push_member(&mut members, name, value)?;
+    copy_debugged(alloc, Document::Object(members).try_clone())
 }
 
-fn document_copy(alloc: Global, document: &Document) -> Mem<String> {
-    let copy = document.try_clone()?;
-    format!(in alloc; "{copy:?}")
-}
-
-fn member(alloc: Global, name: &str, value: Mem<Document>) -> Mem<(String, Document)> {
-    let value = value?;
-    Ok((String::from_str(alloc, name)?, value))
+fn push_member(members: &mut Vec<(String, Document)>, name: &str, value: Document) -> Mem<()> {
+    let name = String::from_str(*members.allocator(), name)?;
+    Ok(members.push((name, value))?)
 }
 
 // Each word is a name and its value.
@@ -54,7 +43,7 @@ fn object_of(alloc: Global, words: &[&str]) -> Mem<Document> {
     let mut members = Vec::new(alloc);
     for word in words {
         let (name, value) = halves(word);
-        members.push(member(alloc, name, document_of(alloc, value))?)?;
+        push_member(&mut members, name, document_of(alloc, value)?)?;
     }
     Ok(Document::Object(members))
 }

@@ -2,33 +2,23 @@ use crate::words::moment_of;
 use eventstream::{Error, ErrorKind};
 use smithy_core::Mem;
 use std::alloc::{AllocError, Global};
-use tool_case_lines::{halves, unknown};
+use tool_case_lines::halves;
 
 // The kind of a copy of the error of a copy of this kind, its text, and whether the message itself is at fault.
-pub fn answer(alloc: Global, words: &[&str]) -> Mem<String> {
-    match words {
-        [word] => copied(alloc, &error_of(alloc, word)?),
-        _ => unknown(alloc),
-    }
-}
-
-fn copied(alloc: Global, error: &Error) -> Mem<String> {
-    let copy = error.try_clone()?;
+pub fn answer(alloc: Global, word: &str) -> Mem<String> {
+    let (name, rest) = halves(word);
+    let copy = error_of(alloc, name, rest)?.try_clone()?;
     let invalid = copy.is_invalid_message();
     format!(in alloc; "{:?} | {copy} | {invalid}", copy.kind())
 }
 
-fn error_of(alloc: Global, word: &str) -> Mem<Error> {
-    match halves(word) {
-        ("marshalling", text) => Ok(Error::marshalling(String::from_str(alloc, text)?)),
-        ("unmarshalling", text) => Ok(Error::unmarshalling(String::from_str(alloc, text)?)),
-        ("AllocError", _) => Ok(Error::from(AllocError)),
-        (name, word) => error_of_kind(&kind_of(alloc, name, word)?),
-    }
-}
-
-fn error_of_kind(kind: &ErrorKind) -> Mem<Error> {
-    Ok(Error::from(kind.try_clone()?))
+fn error_of(alloc: Global, name: &str, rest: &str) -> Mem<Error> {
+    Ok(match name {
+        "marshalling" => Error::marshalling(String::from_str(alloc, rest)?),
+        "unmarshalling" => Error::unmarshalling(String::from_str(alloc, rest)?),
+        "AllocError" => Error::from(AllocError),
+        _ => Error::from(kind_of(alloc, name, rest)?.try_clone()?),
+    })
 }
 
 fn kind_of(alloc: Global, name: &str, word: &str) -> Mem<ErrorKind> {
@@ -43,21 +33,18 @@ fn kind_of(alloc: Global, name: &str, word: &str) -> Mem<ErrorKind> {
         "MessageTooLong" => ErrorKind::MessageTooLong,
         "PayloadTooLong" => ErrorKind::PayloadTooLong,
         "NoMemory" => ErrorKind::NoMemory,
-        _ => telling_kind(alloc, name, word)?,
+        _ => kind_with(alloc, name, word)?,
     })
 }
 
-// The kinds that tell something.
-fn telling_kind(alloc: Global, name: &str, word: &str) -> Mem<ErrorKind> {
+// The kinds that say more.
+fn kind_with(alloc: Global, name: &str, word: &str) -> Mem<ErrorKind> {
     let (computed, carried) = halves(word);
+    let (computed, carried) = (checksum_of(computed), checksum_of(carried));
     Ok(match name {
         "InvalidHeaderValueType" => ErrorKind::InvalidHeaderValueType(word.parse().unwrap_or(0)),
-        "MessageChecksumMismatch" => {
-            ErrorKind::MessageChecksumMismatch(checksum_of(computed), checksum_of(carried))
-        }
-        "PreludeChecksumMismatch" => {
-            ErrorKind::PreludeChecksumMismatch(checksum_of(computed), checksum_of(carried))
-        }
+        "MessageChecksumMismatch" => ErrorKind::MessageChecksumMismatch(computed, carried),
+        "PreludeChecksumMismatch" => ErrorKind::PreludeChecksumMismatch(computed, carried),
         "TimestampValueTooLarge" => ErrorKind::TimestampValueTooLarge(moment_of(word)),
         "Marshalling" => ErrorKind::Marshalling(String::from_str(alloc, word)?),
         _ => ErrorKind::Unmarshalling(String::from_str(alloc, word)?),

@@ -1,5 +1,5 @@
-use crate::shown::{digits, message, quoted};
-use crate::words::{bytes_of, headers_of, message_of, shared};
+use crate::shown::{Shown, digits, quoted, unless_error};
+use crate::words::{bytes_of, headers_of, message_of, shared, word, words_from};
 use bytes::Bytes;
 use eventstream::{
     Error, MessageSizeHint, frame_of, read_held_message, read_message_from, write_headers_to,
@@ -10,56 +10,50 @@ use smithy_core::{Mem, Message};
 use std::alloc::Global;
 use tool_case_lines::unknown;
 
-pub fn answer(alloc: Global, call: &[&str]) -> Mem<String> {
+pub fn answer(alloc: Global, call: &str, words: &[&str]) -> Mem<String> {
     match call {
-        ["read", bytes] => read(alloc, &shared(alloc, bytes)?),
-        ["read_held", bytes] => read_held(alloc, &mut shared(alloc, bytes)?),
-        ["write_headers", list, headers @ ..] => write_headers(alloc, list, headers),
-        ["write", list, headers @ .., payload] => {
-            write(alloc, list, &message_of(alloc, headers, payload)?)
-        }
-        [call, headers @ .., payload] => {
-            of_message(alloc, call, &message_of(alloc, headers, payload)?)
-        }
-        _ => unknown(alloc),
+        "read" => read(alloc, shared(alloc, word(words, 0))?),
+        "read_held" => read_held(alloc, shared(alloc, word(words, 0))?),
+        "write_headers" => write_headers(alloc, word(words, 0), words_from(words, 1)),
+        "write" => write(
+            alloc,
+            word(words, 0),
+            message_of(alloc, words_from(words, 1))?,
+        ),
+        _ => of_message(alloc, call, message_of(alloc, words)?),
     }
 }
 
-fn of_message(alloc: Global, call: &str, message: &Message) -> Mem<String> {
+fn of_message(alloc: Global, call: &str, message: Message) -> Mem<String> {
     match call {
-        "frame_of" => whole(alloc, message),
-        "read_back" => read_back(alloc, message),
-        "write_held" => write_held(alloc, message),
-        "size_hint" => format!(in alloc; "{}", message.size_hint()),
-        "write_hinted" => write_hinted(alloc, message),
+        "frame_of" => whole(alloc, &message),
+        "read_back" => read_back(alloc, &message),
+        "write_held" => write_held(alloc, &message),
+        "size_hint" => message.size_hint().to_string(alloc),
+        "write_hinted" => write_hinted(alloc, &message),
         _ => unknown(alloc),
     }
 }
 
 // The message or the fault, and what is left of the bytes.
-fn read(alloc: Global, bytes: &Bytes) -> Mem<String> {
+fn read(alloc: Global, bytes: Bytes) -> Mem<String> {
     let mut rest = bytes.clone()?;
-    read_part(alloc, bytes.as_slice(), &mut rest)
+    let read = unless_error(alloc, read_message_from(alloc, &mut rest))?;
+    with_rest(alloc, read.as_str(), rest.as_slice(), bytes.as_slice())
 }
 
-fn read_part(alloc: Global, bytes: &[u8], rest: &mut Bytes) -> Mem<String> {
-    let read = read_from(alloc, rest)?;
-    if rest.as_slice() == bytes {
+fn with_rest(alloc: Global, read: &str, rest: &[u8], bytes: &[u8]) -> Mem<String> {
+    if rest == bytes {
         return format!(in alloc; "{read} | all left");
     }
-    format!(in alloc; "{read} | {} left", rest.len())
-}
-
-fn read_from(alloc: Global, rest: &mut Bytes) -> Mem<String> {
-    match read_message_from(alloc, rest) {
-        Ok(read) => message(alloc, &read),
-        Err(error) => error.to_string(alloc),
-    }
+    let left = rest.len();
+    format!(in alloc; "{read} | {left} left")
 }
 
 // The message that the payload of the message that the bytes begin with begins with, and the length of its frame.
-fn read_held(alloc: Global, bytes: &mut Bytes) -> Mem<String> {
-    match read_message_from(alloc, bytes) {
+fn read_held(alloc: Global, bytes: Bytes) -> Mem<String> {
+    let mut bytes = bytes;
+    match read_message_from(alloc, &mut bytes) {
         Ok(outer) => held_by(alloc, &outer),
         Err(error) => error.to_string(alloc),
     }
@@ -68,7 +62,7 @@ fn read_held(alloc: Global, bytes: &mut Bytes) -> Mem<String> {
 fn held_by(alloc: Global, outer: &Message) -> Mem<String> {
     match read_held_message(alloc, outer) {
         Ok((held, len)) => {
-            let held = message(alloc, &held)?;
+            let held = held.shown(alloc)?;
             format!(in alloc; "{held} | {len}")
         }
         Err(error) => error.to_string(alloc),
@@ -81,28 +75,28 @@ fn write_held(alloc: Global, message: &Message) -> Mem<String> {
     match write_summed_message_to(alloc, message, &mut held) {
         Ok(checksum) => {
             let outer = Message::new(alloc, Bytes::from_vec(held)?);
-            write(alloc, "", &outer.with_checksums(Crc::new(), checksum))
+            write(alloc, "", outer.with_checksums(Crc::new(), checksum))
         }
         Err(error) => error.to_string(alloc),
     }
 }
 
 // The list with what was appended to it.
-fn write(alloc: Global, list: &str, message: &Message) -> Mem<String> {
+fn write(alloc: Global, list: &str, message: Message) -> Mem<String> {
     let mut list = bytes_of(alloc, list)?;
-    let written = write_message_to(alloc, message, &mut list);
-    after(alloc, written, list.as_slice())
+    let written = write_message_to(alloc, &message, &mut list);
+    outcome(alloc, written, list.as_slice())
 }
 
 fn write_headers(alloc: Global, list: &str, headers: &[&str]) -> Mem<String> {
     let headers = headers_of(alloc, headers)?;
     let mut list = bytes_of(alloc, list)?;
     let written = write_headers_to(alloc, headers.as_slice(), &mut list);
-    after(alloc, written, list.as_slice())
+    outcome(alloc, written, list.as_slice())
 }
 
 // The list, and before it why nothing was written and whether the message itself is at fault.
-fn after(alloc: Global, written: Result<(), Error>, list: &[u8]) -> Mem<String> {
+fn outcome(alloc: Global, written: Result<(), Error>, list: &[u8]) -> Mem<String> {
     match written {
         Ok(()) => digits(alloc, list),
         Err(error) => refused(alloc, &error, quoted(alloc, list)),
@@ -128,7 +122,7 @@ fn whole(alloc: Global, message: &Message) -> Mem<String> {
 fn read_back(alloc: Global, message: &Message) -> Mem<String> {
     let mut frame = Vec::new(alloc);
     match write_message_to(alloc, message, &mut frame) {
-        Ok(()) => read(alloc, &Bytes::from_vec(frame)?),
+        Ok(()) => read(alloc, Bytes::from_vec(frame)?),
         Err(error) => error.to_string(alloc),
     }
 }
@@ -137,12 +131,7 @@ fn read_back(alloc: Global, message: &Message) -> Mem<String> {
 fn write_hinted(alloc: Global, message: &Message) -> Mem<String> {
     let mut list = Vec::with_capacity(alloc, message.size_hint())?;
     let room = list.capacity();
-    let written = write_message_to(alloc, message, &mut list);
-    rooms(alloc, room, written, &list)
-}
-
-fn rooms(alloc: Global, room: usize, written: Result<(), Error>, list: &Vec<u8>) -> Mem<String> {
-    match written {
+    match write_message_to(alloc, message, &mut list) {
         Ok(()) => format!(in alloc; "{room} | {} | {}", list.capacity(), list.len()),
         Err(error) => error.to_string(alloc),
     }

@@ -1,8 +1,8 @@
 ghost use Rattle.std.specs.Prelude.{◌≤◌, length, IfOk};
 
-use crate::shown::{quoted, truth};
-use crate::steps::answers_of;
-use crate::words::{bytes_of, size_of};
+use crate::shown::{debugged, quoted};
+use crate::steps::all_answers;
+use crate::words::{bytes_of, parted, size_of, word};
 use smithy_core::{Clock, Disk, Env, HostDisk, Mem, SystemClock};
 use std::alloc::Global;
 use std::env::FillError;
@@ -20,17 +20,14 @@ pub fn answer<R: Runtime>(
     words: &[&str],
 ) -> Mem<String> {
     match call {
-        "disk" => answers_of(alloc, &mut HostDisk::new(alloc, runtime), words),
+        "disk" => all_answers(alloc, HostDisk::new(alloc, runtime), words),
         "listed_variable" => listed_variable(alloc, words),
         "new_file" => new_file(runtime, process, alloc, words),
-        _ => of_word(runtime, alloc, call, words),
+        _ => of_word(runtime, alloc, call, word(words, 0)),
     }
 }
 
-fn of_word<R: Runtime>(runtime: &R, alloc: Global, call: &str, words: &[&str]) -> Mem<String> {
-    let [word] = words else {
-        return unknown(alloc);
-    };
+fn of_word<R: Runtime>(runtime: &R, alloc: Global, call: &str, word: &str) -> Mem<String> {
     match call {
         "variable" => variable(runtime, alloc, word),
         "clock" => clock(runtime, alloc, number(word)),
@@ -40,22 +37,20 @@ fn of_word<R: Runtime>(runtime: &R, alloc: Global, call: &str, words: &[&str]) -
 
 // What is read of a new file of this process.
 fn new_file<R: Runtime>(runtime: &R, process: u32, alloc: Global, words: &[&str]) -> Mem<String> {
-    let [content, len] = words else {
-        return unknown(alloc);
-    };
-    let content = bytes_of(alloc, content)?;
     let path = format!(in alloc; "/tmp/tool_frame_cases-{process}")?;
-    let made = make(runtime, path.as_str(), content.as_slice(), size_of(len));
-    made_and_read(runtime, alloc, path.as_str(), made)
+    let content = bytes_of(alloc, word(words, 0))?;
+    let len = size_of(word(words, 1));
+    made_and_read(runtime, alloc, path.as_str(), content.as_slice(), len)
 }
 
 fn made_and_read<R: Runtime>(
     runtime: &R,
     alloc: Global,
     path: &str,
-    made: io::Result<()>,
+    content: &[u8],
+    len: usize,
 ) -> Mem<String> {
-    match made {
+    match make(runtime, path, content, len) {
         Ok(()) => read_new(runtime, alloc, path),
         Err(_) => String::from_str(alloc, "no new file"),
     }
@@ -68,7 +63,7 @@ fn make<R: Files>(runtime: &R, path: &str, content: &[u8], len: usize) -> io::Re
     file.set_len(len as u64)
 }
 
-// What is read of a file, which then goes. Of a long one only the length is told.
+// What is read of a file, which then goes. Of a long one only the length is shown.
 fn read_new<R: Runtime>(runtime: &R, alloc: Global, path: &str) -> Mem<String> {
     let read = read_file(runtime, alloc, path);
     match fs::remove_file(runtime, path) {
@@ -80,7 +75,7 @@ fn read_new<R: Runtime>(runtime: &R, alloc: Global, path: &str) -> Mem<String> {
 fn read_file<R: Runtime>(runtime: &R, alloc: Global, path: &str) -> Mem<String> {
     match HostDisk::new(alloc, runtime).read(path) {
         Ok(bytes) => shown(alloc, bytes.as_slice()),
-        Err(fault) => format!(in alloc; "{fault:?}"),
+        Err(fault) => debugged(alloc, &fault),
     }
 }
 
@@ -94,7 +89,7 @@ fn shown(alloc: Global, bytes: &[u8]) -> Mem<String> {
 // Whether a variable has the value that the system's own call gives.
 fn variable<R: Runtime>(runtime: &R, alloc: Global, name: &str) -> Mem<String> {
     let found = Env::real(alloc, runtime)?;
-    truth(alloc, is_same(runtime, found.get(name), name))
+    is_same(runtime, found.get(name), name).to_string(alloc)
 }
 
 fn is_same<R: Runtime>(runtime: &R, found: Option<&str>, name: &str) -> bool {
@@ -138,9 +133,7 @@ fn copy_entry(entry: &[u8], buf: &mut [u8]) -> Result<usize, FillError>
 }
 
 fn listed_variable(alloc: Global, words: &[&str]) -> Mem<String> {
-    let [entries @ .., name] = words else {
-        return unknown(alloc);
-    };
+    let (entries, name) = parted(words);
     let listed = listed_of(alloc, entries)?;
     variable_of(alloc, &listed, name)
 }
@@ -163,5 +156,6 @@ fn listed_of(alloc: Global, words: &[&str]) -> Mem<Listed> {
 
 // Whether the system's clock is past a second.
 fn clock<R: Runtime>(runtime: &R, alloc: Global, secs: i64) -> Mem<String> {
-    truth(alloc, SystemClock::new(runtime).now().secs() > secs)
+    let is_past = SystemClock::new(runtime).now().secs() > secs;
+    is_past.to_string(alloc)
 }

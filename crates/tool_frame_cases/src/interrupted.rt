@@ -1,7 +1,7 @@
-use crate::outside::with_written;
-use crate::steps::answers_of;
+use crate::outside::{read_from, with_rest, write_to};
+use crate::shown::Shown;
 use crate::words::{bytes_of, size_of};
-use smithy_core::{Mem, StdSink, StdSource};
+use smithy_core::Mem;
 use std::alloc::Global;
 use std::io;
 use std::io::{ErrorKind, Read, Write};
@@ -23,7 +23,7 @@ impl<T> Interrupted<T> {
         }
     }
 
-    // Tells of a signal, or that the call goes through.
+    // Whether the call goes through, or a signal interrupts it.
     fn pass(&mut self) -> io::Result<()> {
         if self.left > 0 {
             self.left -= 1;
@@ -57,13 +57,13 @@ impl<W: Write> Write for Interrupted<W> {
 pub fn source(alloc: Global, times: &str, content: &str, steps: &[&str]) -> Mem<String> {
     let content = bytes_of(alloc, content)?;
     let reader = Interrupted::new(content.as_slice(), size_of(times));
-    answers_of(alloc, &mut StdSource::new(reader), steps)
+    read_from(alloc, reader, steps)
 }
 
 /// What a sink over an interrupted writer answers to the steps, and what was written.
 pub fn sink(alloc: Global, times: &str, steps: &[&str]) -> Mem<String> {
     let mut written = Vec::new(alloc);
     let writer = Interrupted::new(&mut written, size_of(times));
-    let answers = answers_of(alloc, &mut StdSink::new(writer), steps)?;
-    with_written(alloc, answers, written.as_slice())
+    let answers = write_to(alloc, writer, steps)?;
+    with_rest(answers, written.shown(alloc))
 }

@@ -10,7 +10,7 @@
 //!   `bool`, `i8`, `i16`, `i32`, `i64`, `bytes`, `text`, `time` and `uuid`;
 //! - a message is the words of its headers, and then the bytes of its payload.
 //!
-//! Answers show all of these in the same way. Bytes and texts over 400 bytes are told by their length and SHA-256.
+//! Answers show all of these in the same way. Bytes and texts over 400 bytes are shown by their length and SHA-256.
 #![tactic(auto)]
 
 mod checksums;
@@ -33,7 +33,11 @@ mod texts;
 mod values;
 mod words;
 
-use std::alloc::{AllocError, Global};
+use crate::steps::all_answers;
+use crate::words::{word, words_from};
+use seg_buf::SegBuf;
+use smithy_core::Mem;
+use std::alloc::Global;
 use std::process::ExitCode;
 use std::rt::Runtime;
 use std::{io, process};
@@ -47,40 +51,41 @@ struct Cases<R> {
 }
 
 impl<R: Runtime> Answers for Cases<R> {
-    fn answer(&self, alloc: Global, words: &[&str]) -> Result<String, AllocError> {
-        match words {
-            ["host", call, words @ ..] => {
+    fn answer(&self, alloc: Global, words: &[&str]) -> Mem<String> {
+        match word(words, 0) {
+            "host" => {
+                let (call, words) = (word(words, 1), words_from(words, 2));
                 host::answer(&self.runtime, self.process, alloc, call, words)
             }
-            [subject, words @ ..] => answer(alloc, subject, words),
-            [] => unknown(alloc),
+            subject => answer(alloc, subject, word(words, 1), words_from(words, 1)),
         }
     }
 }
 
-// The base of the stack, and else what stands above it.
-fn answer(alloc: Global, subject: &str, words: &[&str]) -> Result<String, AllocError> {
+// The answer of a call, which is the first of the words, or of steps, which all words are.
+fn answer(alloc: Global, subject: &str, call: &str, words: &[&str]) -> Mem<String> {
     match subject {
-        "checksum" => checksums::answer(alloc, words),
-        "segments" => segments::answer(alloc, words),
-        "moment" => moments::answer(alloc, words),
-        "text" => texts::answer(alloc, words),
-        "value" => values::answer(alloc, words),
-        "document" => documents::answer(alloc, words),
-        "print" => prints::answer(alloc, words),
-        "request" => requests::answer(alloc, words),
-        _ => upper_answer(alloc, subject, words),
+        "segments" => all_answers(alloc, SegBuf::new(alloc), words),
+        "decoder" => decoding::answer(alloc, words),
+        "fault" => faults::answer(alloc, call),
+        _ => answer_to(alloc, subject, call, words_from(words, 1)),
     }
 }
 
-fn upper_answer(alloc: Global, subject: &str, words: &[&str]) -> Result<String, AllocError> {
+fn answer_to(alloc: Global, subject: &str, call: &str, words: &[&str]) -> Mem<String> {
     match subject {
-        "outside" | "copy" => outside::answer(alloc, subject, words),
-        "source" => sources::answer(alloc, words),
-        "frame" => frames::answer(alloc, words),
-        "decoder" => decoding::answer(alloc, words),
-        "response" => responses::answer(alloc, words),
-        "fault" => faults::answer(alloc, words),
+        "checksum" => checksums::answer(alloc, call, words),
+        "moment" => moments::answer(alloc, call, word(words, 0)),
+        "text" => texts::answer(alloc, call, words),
+        "value" => values::answer(alloc, call, word(words, 0)),
+        "document" => documents::answer(alloc, call, words),
+        "print" => prints::answer(alloc, call, word(words, 0)),
+        "request" => requests::answer(alloc, call, words),
+        "outside" => outside::answer(alloc, false, call, words),
+        "copy" => outside::answer(alloc, true, call, words),
+        "source" => sources::answer(alloc, call, words),
+        "frame" => frames::answer(alloc, call, words),
+        "response" => responses::answer(alloc, call, words),
         _ => unknown(alloc),
     }
 }

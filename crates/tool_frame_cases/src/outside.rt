@@ -1,7 +1,7 @@
 use crate::interrupted;
-use crate::shown::{moment, nothing, push_given, quoted, told};
-use crate::steps::{Steps, answers_of};
-use crate::words::{bytes_of, moment_of, numbers_of, size_of};
+use crate::shown::{Shown, answered, debugged, labelled, nothing, push, quoted};
+use crate::steps::{Steps, all_answers, answers_of};
+use crate::words::{bytes_of, moment_of, numbers_of, parted, size_of, word, words_from};
 use smithy_core::{
     ByteSink, ByteSource, CalmDisk, CalmSink, CalmSource, Clock, DateTime, Disk, FaultyDisk,
     FaultySink, FaultySource, FixedClock, HostDisk, ListClock, Mem, StdSink, StdSource, read_all,
@@ -14,8 +14,10 @@ use tool_case_lines::{halves, unknown};
 
 // An I/O object: a source, a sink or a disk.
 trait Outside: Steps + Sized {
-    // What it tells after the steps.
-    fn rest(&self, alloc: Global) -> Mem<String>;
+    // What is left in it or was written to it.
+    fn rest(&self, alloc: Global) -> Mem<String> {
+        nothing(alloc)
+    }
 
     // A copy, which goes on from here.
     fn copied(&self) -> Mem<Self>;
@@ -29,7 +31,7 @@ impl Steps for FaultySource {
 
 impl Outside for FaultySource {
     fn rest(&self, alloc: Global) -> Mem<String> {
-        told(alloc, "left", quoted(alloc, self.left()))
+        labelled(alloc, "left", quoted(alloc, self.left()))
     }
 
     fn copied(&self) -> Mem<FaultySource> {
@@ -45,7 +47,7 @@ impl Steps for CalmSource {
 
 impl Outside for CalmSource {
     fn rest(&self, alloc: Global) -> Mem<String> {
-        told(alloc, "left", quoted(alloc, self.left()))
+        labelled(alloc, "left", quoted(alloc, self.left()))
     }
 
     fn copied(&self) -> Mem<CalmSource> {
@@ -92,10 +94,6 @@ impl Steps for FaultyDisk {
 }
 
 impl Outside for FaultyDisk {
-    fn rest(&self, alloc: Global) -> Mem<String> {
-        nothing(alloc)
-    }
-
     fn copied(&self) -> Mem<FaultyDisk> {
         self.try_clone()
     }
@@ -108,10 +106,6 @@ impl Steps for CalmDisk {
 }
 
 impl Outside for CalmDisk {
-    fn rest(&self, alloc: Global) -> Mem<String> {
-        nothing(alloc)
-    }
-
     fn copied(&self) -> Mem<CalmDisk> {
         self.try_clone()
     }
@@ -135,90 +129,82 @@ impl<R: Files> Steps for HostDisk<R> {
     }
 }
 
-// What an object answers to the steps, and what it then tells. With `copies` a copy that is made after the first step takes
+// What an object answers to the steps, and what is in it then. With `copies` a copy that is made after the first step takes
 // the others.
-fn told_after<O: Outside + Drop>(
+fn shown_after<O: Outside + Drop>(
     alloc: Global,
     copies: bool,
-    object: &mut O,
+    object: O,
     steps: &[&str],
 ) -> Mem<String> {
-    match steps {
-        [first, others @ ..] if copies => {
-            let mut answers = object.after(alloc, first)?;
-            push_given(&mut answers, told_by_copy(alloc, object, others))?;
-            Ok(answers)
-        }
-        _ => all_told(alloc, object, steps),
+    let mut object = object;
+    if copies {
+        return shown_by_copy(alloc, &mut object, steps);
     }
+    all_shown(alloc, &mut object, steps)
 }
 
-fn told_by_copy<O: Outside + Drop>(alloc: Global, object: &O, steps: &[&str]) -> Mem<String> {
+fn shown_by_copy<O: Outside + Drop>(alloc: Global, object: &mut O, steps: &[&str]) -> Mem<String> {
+    let first = object.after(alloc, word(steps, 0))?;
     let mut copy = object.copied()?;
-    all_told(alloc, &mut copy, steps)
+    with_rest(first, all_shown(alloc, &mut copy, words_from(steps, 1)))
 }
 
-fn all_told<O: Outside>(alloc: Global, object: &mut O, steps: &[&str]) -> Mem<String> {
-    let mut answers = answers_of(alloc, object, steps)?;
-    push_given(&mut answers, object.rest(alloc))?;
+fn all_shown<O: Outside>(alloc: Global, object: &mut O, steps: &[&str]) -> Mem<String> {
+    let answers = answers_of(alloc, object, steps)?;
+    with_rest(answers, object.rest(alloc))
+}
+
+// The answers, and one more.
+pub fn with_rest(answers: String, rest: Mem<String>) -> Mem<String> {
+    let mut answers = answers;
+    push(&mut answers, rest)?;
     Ok(answers)
 }
 
-/// The answers of an object to its steps, and of `copy` those of its copy to all but the first.
-pub fn answer(alloc: Global, subject: &str, call: &[&str]) -> Mem<String> {
+/// The answers of an object to its steps, and with `copies` those of its copy to all but the first.
+pub fn answer(alloc: Global, copies: bool, call: &str, words: &[&str]) -> Mem<String> {
+    let first = word(words, 0);
     match call {
-        [call, words @ ..] => of_calm(alloc, subject == "copy", call, words),
-        [] => unknown(alloc),
-    }
-}
-
-fn of_calm(alloc: Global, copies: bool, call: &str, words: &[&str]) -> Mem<String> {
-    match (call, words) {
-        ("calm_sink", steps) => told_after(alloc, copies, &mut CalmSink::new(alloc), steps),
-        ("calm_source", [content, steps @ ..]) => {
-            let mut source = CalmSource::new(bytes_of(alloc, content)?);
-            told_after(alloc, copies, &mut source, steps)
+        "calm_sink" => shown_after(alloc, copies, CalmSink::new(alloc), words),
+        "calm_source" => {
+            let source = CalmSource::new(bytes_of(alloc, first)?);
+            shown_after(alloc, copies, source, words_from(words, 1))
         }
-        ("calm_disk", [files, paths @ ..]) => {
-            let mut disk = CalmDisk::new(files_of(alloc, files)?);
-            told_after(alloc, copies, &mut disk, paths)
+        "calm_disk" => {
+            let disk = CalmDisk::new(files_of(alloc, first)?);
+            shown_after(alloc, copies, disk, words_from(words, 1))
         }
-        ("faulty_sink", [fails, steps @ ..]) => {
-            let mut sink = FaultySink::new(alloc, numbers_of(alloc, fails)?);
-            told_after(alloc, copies, &mut sink, steps)
+        "faulty_sink" => {
+            let sink = FaultySink::new(alloc, numbers_of(alloc, first)?);
+            shown_after(alloc, copies, sink, words_from(words, 1))
         }
-        ("faulty_source", [content, fails, steps @ ..]) => {
-            let mut source = faulty_source_of(alloc, content, fails)?;
-            told_after(alloc, copies, &mut source, steps)
+        "faulty_source" => {
+            let source = faulty_source_of(alloc, first, word(words, 1))?;
+            shown_after(alloc, copies, source, words_from(words, 2))
         }
-        ("faulty_disk", [files, fails, paths @ ..]) => {
-            let mut disk = faulty_disk_of(alloc, files, fails)?;
-            told_after(alloc, copies, &mut disk, paths)
+        "faulty_disk" => {
+            let disk = faulty_disk_of(alloc, first, word(words, 1))?;
+            shown_after(alloc, copies, disk, words_from(words, 2))
         }
-        ("list_clock", [words @ .., count]) => list_clock(alloc, copies, words, size_of(count)),
+        "list_clock" => list_clock(alloc, copies, words),
         _ => of_std(alloc, call, words),
     }
 }
 
 fn of_std(alloc: Global, call: &str, words: &[&str]) -> Mem<String> {
-    match (call, words) {
-        ("fixed_clock", [moment, count]) => {
-            given(
-                alloc,
-                &mut FixedClock::new(moment_of(moment)),
-                size_of(count),
-            )
-        }
-        ("std_source", [content, steps @ ..]) => {
-            let content = bytes_of(alloc, content)?;
-            answers_of(alloc, &mut StdSource::new(content.as_slice()), steps)
-        }
-        ("std_sink", steps) => std_sink(alloc, steps),
-        ("full_sink", [room, steps @ ..]) => full_sink(alloc, size_of(room), steps),
-        ("interrupted_source", [times, content, steps @ ..]) => {
-            interrupted::source(alloc, times, content, steps)
-        }
-        ("interrupted_sink", [times, steps @ ..]) => interrupted::sink(alloc, times, steps),
+    let (first, second) = (word(words, 0), word(words, 1));
+    match call {
+        "fixed_clock" => given(
+            alloc,
+            &mut FixedClock::new(moment_of(first)),
+            size_of(second),
+        ),
+        "std_source" => std_source(alloc, bytes_of(alloc, first)?, words_from(words, 1)),
+        "std_sink" => std_sink(alloc, words),
+        "full_sink" => full_sink(alloc, size_of(first), words_from(words, 1)),
+        "interrupted_source" => interrupted::source(alloc, first, second, words_from(words, 2)),
+        "interrupted_sink" => interrupted::sink(alloc, first, words_from(words, 1)),
         _ => unknown(alloc),
     }
 }
@@ -235,10 +221,11 @@ fn faulty_disk_of(alloc: Global, files: &str, fails: &str) -> Mem<FaultyDisk> {
 
 // A step reads once into so much room or into a buffer, or all up to a limit.
 fn read_by<S: ByteSource>(alloc: Global, source: &mut S, step: &str) -> Mem<String> {
-    match halves(step) {
-        ("all", limit) => read_whole(alloc, source, size_of(limit)),
-        ("into", content) => read_into(alloc, source, content),
-        (_, room) => read_once(alloc, source, size_of(room)),
+    let (step, word) = halves(step);
+    match step {
+        "all" => answered(alloc, read_all(alloc, source, size_of(word))),
+        "into" => read_into(alloc, source, word),
+        _ => read_once(alloc, source, size_of(word)),
     }
 }
 
@@ -254,54 +241,45 @@ fn read_once<S: ByteSource>(alloc: Global, source: &mut S, room: usize) -> Mem<S
     let mut into = vec![in alloc; 0u8; room]?;
     match source.read(into.as_mut_slice()) {
         Ok(n) => quoted(alloc, &into.as_slice()[..n]),
-        Err(fault) => format!(in alloc; "{fault:?}"),
+        Err(fault) => debugged(alloc, &fault),
     }
 }
 
-fn read_whole<S: ByteSource>(alloc: Global, source: &mut S, limit: usize) -> Mem<String> {
-    match read_all(alloc, source, limit) {
-        Ok(bytes) => quoted(alloc, bytes.as_slice()),
-        Err(fault) => format!(in alloc; "{fault:?}"),
-    }
+/// What a source over a reader answers to the steps.
+pub fn read_from<R: Read + Drop>(alloc: Global, reader: R, steps: &[&str]) -> Mem<String> {
+    all_answers(alloc, StdSource::new(reader), steps)
+}
+
+/// What a sink over a writer answers to the steps.
+pub fn write_to<W: Write + Drop>(alloc: Global, writer: W, steps: &[&str]) -> Mem<String> {
+    all_answers(alloc, StdSink::new(writer), steps)
+}
+
+fn std_source(alloc: Global, content: Vec<u8>, steps: &[&str]) -> Mem<String> {
+    read_from(alloc, content.as_slice(), steps)
 }
 
 fn std_sink(alloc: Global, steps: &[&str]) -> Mem<String> {
     let mut written = Vec::new(alloc);
-    let answers = answers_of(alloc, &mut StdSink::new(&mut written), steps)?;
-    with_written(alloc, answers, written.as_slice())
+    let answers = write_to(alloc, &mut written, steps)?;
+    with_rest(answers, written.shown(alloc))
 }
 
 // A sink over a slice, which can be full.
 fn full_sink(alloc: Global, room: usize, steps: &[&str]) -> Mem<String> {
     let mut slice = vec![in alloc; b'.'; room]?;
-    let answers = answers_of(alloc, &mut StdSink::new(slice.as_mut_slice()), steps)?;
-    with_written(alloc, answers, slice.as_slice())
-}
-
-pub fn with_written(alloc: Global, answers: String, written: &[u8]) -> Mem<String> {
-    let mut answers = answers;
-    push_given(&mut answers, quoted(alloc, written))?;
-    Ok(answers)
+    let answers = write_to(alloc, slice.as_mut_slice(), steps)?;
+    with_rest(answers, slice.shown(alloc))
 }
 
 // A step writes a piece once, or the whole of it.
 fn write_by<K: ByteSink>(alloc: Global, sink: &mut K, step: &str) -> Mem<String> {
-    match halves(step) {
-        ("all", piece) => write_whole(alloc, sink, piece),
-        (_, piece) => write_once(alloc, sink, piece),
+    let (step, piece) = halves(step);
+    let piece = bytes_of(alloc, piece)?;
+    match step {
+        "all" => debugged(alloc, &write_all(sink, piece.as_slice())),
+        _ => debugged(alloc, &sink.write(piece.as_slice())),
     }
-}
-
-fn write_whole<K: ByteSink>(alloc: Global, sink: &mut K, piece: &str) -> Mem<String> {
-    let piece = bytes_of(alloc, piece)?;
-    let answer = write_all(sink, piece.as_slice());
-    format!(in alloc; "{answer:?}")
-}
-
-fn write_once<K: ByteSink>(alloc: Global, sink: &mut K, piece: &str) -> Mem<String> {
-    let piece = bytes_of(alloc, piece)?;
-    let answer = sink.write(piece.as_slice());
-    format!(in alloc; "{answer:?}")
 }
 
 // The files between `;`, each a path and its bytes.
@@ -320,29 +298,27 @@ fn file_of(alloc: Global, word: &str) -> Mem<(String, Vec<u8>)> {
 }
 
 fn read_path<D: Disk>(alloc: Global, disk: &mut D, path: &str) -> Mem<String> {
-    match disk.read(path) {
-        Ok(bytes) => quoted(alloc, bytes.as_slice()),
-        Err(fault) => format!(in alloc; "{fault:?}"),
-    }
+    answered(alloc, disk.read(path))
 }
 
-fn list_clock(alloc: Global, copies: bool, words: &[&str], count: usize) -> Mem<String> {
+// What a clock gives of moments, which come before a count.
+fn list_clock(alloc: Global, copies: bool, words: &[&str]) -> Mem<String> {
+    let (words, count) = parted(words);
     let moments = moments_of(alloc, words)?;
     if moments.is_empty() {
         return String::from_str(alloc, "no moments");
     }
     let mut clock = ListClock::new(moments);
     if copies {
-        return given_by_copy(alloc, &mut clock, count);
+        return given_by_copy(alloc, &mut clock, size_of(count));
     }
-    given(alloc, &mut clock, count)
+    given(alloc, &mut clock, size_of(count))
 }
 
 // A first moment, and then so many of a copy.
 fn given_by_copy(alloc: Global, clock: &mut ListClock, count: usize) -> Mem<String> {
-    let mut answers = given(alloc, clock, 1)?;
-    push_given(&mut answers, given(alloc, &mut clock.try_clone()?, count))?;
-    Ok(answers)
+    let first = given(alloc, clock, 1)?;
+    with_rest(first, given(alloc, &mut clock.try_clone()?, count))
 }
 
 fn moments_of(alloc: Global, words: &[&str]) -> Mem<Vec<DateTime>> {
@@ -357,7 +333,7 @@ fn moments_of(alloc: Global, words: &[&str]) -> Mem<Vec<DateTime>> {
 fn given<C: Clock>(alloc: Global, clock: &mut C, count: usize) -> Mem<String> {
     let mut answers = String::new(alloc);
     for _ in 0..count {
-        push_given(&mut answers, moment(alloc, clock.now()))?;
+        push(&mut answers, clock.now().shown(alloc))?;
     }
     Ok(answers)
 }

@@ -1,69 +1,52 @@
+use crate::shown::{copy_debugged, debugged};
 use smithy_core::{
     DiskError, Failed, FormatFault, InvalidAppName, Mem, ReadFault, SdkError, SinkError,
     TimeOutOfRange,
 };
 use std::alloc::Global;
+use std::fmt::{Debug, Display};
 use tool_case_lines::unknown;
 
 // The text of a fault, or how a copy of it shows itself.
-pub fn answer(alloc: Global, call: &[&str]) -> Mem<String> {
-    match call {
-        [kind, name] => of_kind(alloc, kind, name),
-        [kind] => of_one(alloc, kind),
-        _ => unknown(alloc),
+pub fn answer(alloc: Global, kind: &str, name: &str) -> Mem<String> {
+    match kind {
+        "InvalidAppName" => InvalidAppName.to_string(alloc),
+        "TimeOutOfRange" => TimeOutOfRange.to_string(alloc),
+        "Failed" => Failed.to_string(alloc),
+        "SdkError" => sdk_error(name).to_string(alloc),
+        "copied" => copy_debugged(alloc, sdk_error(name).try_clone()),
+        _ => of_kind(alloc, kind, name),
     }
 }
 
 fn of_kind(alloc: Global, kind: &str, name: &str) -> Mem<String> {
     match kind {
-        "FormatFault" => format_fault(name).to_string(alloc),
-        "DiskError" => disk_error(name).to_string(alloc),
-        "ReadFault" => read_fault(name).to_string(alloc),
-        "SinkError" => sink_error(name).to_string(alloc),
-        "SdkError" => sdk_error(name).to_string(alloc),
-        "copied" => copied(alloc, name),
+        "FormatFault" => named(
+            alloc,
+            &[FormatFault::OutOfRange, FormatFault::NoMemory],
+            name,
+        ),
+        "DiskError" => {
+            let all = [DiskError::NotFound, DiskError::Failed, DiskError::NoMemory];
+            named(alloc, &all, name)
+        }
+        "ReadFault" => {
+            let all = [ReadFault::Failed, ReadFault::TooLarge, ReadFault::NoMemory];
+            named(alloc, &all, name)
+        }
+        "SinkError" => named(alloc, &[SinkError::Failed, SinkError::NoMemory], name),
         _ => unknown(alloc),
     }
 }
 
-// The faults of which there is one alone.
-fn of_one(alloc: Global, kind: &str) -> Mem<String> {
-    match kind {
-        "InvalidAppName" => InvalidAppName.to_string(alloc),
-        "TimeOutOfRange" => TimeOutOfRange.to_string(alloc),
-        "Failed" => Failed.to_string(alloc),
-        _ => unknown(alloc),
+// The text of the one of these that `Debug` shows by this name.
+fn named<T: Debug + Display>(alloc: Global, all: &[T], name: &str) -> Mem<String> {
+    for fault in all {
+        if debugged(alloc, fault)?.as_str() == name {
+            return fault.to_string(alloc);
+        }
     }
-}
-
-fn format_fault(name: &str) -> FormatFault {
-    match name {
-        "OutOfRange" => FormatFault::OutOfRange,
-        _ => FormatFault::NoMemory,
-    }
-}
-
-fn disk_error(name: &str) -> DiskError {
-    match name {
-        "NotFound" => DiskError::NotFound,
-        "Failed" => DiskError::Failed,
-        _ => DiskError::NoMemory,
-    }
-}
-
-fn read_fault(name: &str) -> ReadFault {
-    match name {
-        "Failed" => ReadFault::Failed,
-        "TooLarge" => ReadFault::TooLarge,
-        _ => ReadFault::NoMemory,
-    }
-}
-
-fn sink_error(name: &str) -> SinkError {
-    match name {
-        "Failed" => SinkError::Failed,
-        _ => SinkError::NoMemory,
-    }
+    unknown(alloc)
 }
 
 fn sdk_error(name: &str) -> SdkError<u8, u16, u32> {
@@ -74,9 +57,4 @@ fn sdk_error(name: &str) -> SdkError<u8, u16, u32> {
         "ServiceError" => SdkError::ServiceError { source: 4, raw: 5 },
         _ => SdkError::NoMemory,
     }
-}
-
-fn copied(alloc: Global, name: &str) -> Mem<String> {
-    let copy = sdk_error(name).try_clone()?;
-    format!(in alloc; "{copy:?}")
 }

@@ -1,39 +1,21 @@
-use crate::shown::{nothing, push_answer, quoted, truth};
-use crate::steps::{Steps, answers_of};
-use crate::texts::unless_empty;
-use crate::words::{moment_of, shared};
+use crate::shown::{Shown, copy_shown, debugged, nothing, push_text, quoted};
+use crate::steps::{Steps, all_answers};
+use crate::words::{moment_of, shared, unless_empty, word, words_from};
 use smithy_core::{
     Credentials, Headers, HttpRequest, HttpResponse, Identity, Mem, Moment, RetryConfig,
 };
 use std::alloc::Global;
-use tool_case_lines::{halves, unknown};
+use tool_case_lines::halves;
 
-pub fn answer(alloc: Global, call: &[&str]) -> Mem<String> {
+pub fn answer(alloc: Global, call: &str, words: &[&str]) -> Mem<String> {
     match call {
-        ["headers", steps @ ..] => answers_of(alloc, &mut Headers::new(alloc), steps),
-        ["collected", words @ ..] => collected(alloc, words),
-        ["new", method, target] => copied_request(alloc, method, target, "", &[]),
-        ["copied_request", method, target, body, steps @ ..] => {
-            copied_request(alloc, method, target, body, steps)
-        }
-        ["copied_response", status, skew, steps @ ..] => {
-            copied_response(alloc, status, skew, steps)
-        }
-        ["max_attempts"] => RetryConfig::standard().max_attempts.to_string(alloc),
-        [_, token] => copied_identity(alloc, &Identity::Token(String::from_str(alloc, token)?)),
-        [call, key_id, secret, token, expiry] => {
-            let signer = credentials(alloc, key_id, secret, token, expiry_of(expiry))?;
-            of_signer(alloc, call, signer)
-        }
-        _ => unknown(alloc),
-    }
-}
-
-fn of_signer(alloc: Global, call: &str, signer: Credentials) -> Mem<String> {
-    match call {
-        "copied_credentials" => parts_of(alloc, &signer.try_clone()?),
-        "copied_identity" => copied_identity(alloc, &Identity::Credentials(signer)),
-        _ => copied_identity(alloc, &Identity::from(signer)),
+        "headers" => all_answers(alloc, Headers::new(alloc), words),
+        "collected" => collected(alloc, words),
+        "new" | "copied_request" => copied_request(alloc, words),
+        "copied_response" => copied_response(alloc, words),
+        "max_attempts" => RetryConfig::standard().max_attempts.to_string(alloc),
+        _ if words.len() == 1 => copied_token(alloc, word(words, 0)),
+        _ => of_signer(alloc, call, credentials(alloc, words)?),
     }
 }
 
@@ -41,23 +23,16 @@ impl Steps for Headers {
     fn after(&mut self, alloc: Global, step: &str) -> Mem<String> {
         let (step, word) = halves(step);
         match step {
-            "insert" | "append" => put_in(alloc, self, step, word),
+            "get" => debugged(alloc, &self.get(word)),
+            "get_all" => values(alloc, self, word),
+            "contains_key" => self.contains_key(word).to_string(alloc),
             "len" => self.len().to_string(alloc),
-            "is_empty" => truth(alloc, self.is_empty()),
-            "iter" => pairs(alloc, self),
+            "is_empty" => self.is_empty().to_string(alloc),
+            "iter" => self.shown(alloc),
             "for" => looped(alloc, self),
-            "copy" => pairs(alloc, &self.try_clone()?),
-            _ => of_name(alloc, self, step, word),
+            "copy" => copy_shown(alloc, self.try_clone()),
+            _ => put_in(alloc, self, step, word),
         }
-    }
-}
-
-fn of_name(alloc: Global, headers: &Headers, step: &str, name: &str) -> Mem<String> {
-    match step {
-        "get" => format!(in alloc; "{:?}", headers.get(name)),
-        "get_all" => values(alloc, headers, name),
-        "contains_key" => truth(alloc, headers.contains_key(name)),
-        _ => String::from_str(alloc, "no such step"),
     }
 }
 
@@ -79,36 +54,38 @@ fn put(headers: &mut Headers, step: &str, pair: &str) -> Mem<()> {
 fn values(alloc: Global, headers: &Headers, name: &str) -> Mem<String> {
     let mut answers = String::new(alloc);
     for value in headers.get_all(name) {
-        push_answer(&mut answers, value)?;
+        push_text(&mut answers, value)?;
     }
     Ok(answers)
 }
 
-pub fn pairs(alloc: Global, headers: &Headers) -> Mem<String> {
-    let mut answers = String::new(alloc);
-    push_pairs(&mut answers, headers)?;
-    Ok(answers)
+impl Shown for Headers {
+    fn shown(&self, alloc: Global) -> Mem<String> {
+        let mut pairs = String::new(alloc);
+        push_pairs(&mut pairs, self)?;
+        Ok(pairs)
+    }
 }
 
-fn push_pairs(answers: &mut String, headers: &Headers) -> Mem<()> {
+fn push_pairs(pairs: &mut String, headers: &Headers) -> Mem<()> {
     for (name, value) in headers.iter() {
-        push_pair(answers, name, value)?;
+        push_pair(pairs, name, value)?;
     }
     Ok(())
 }
 
 // The pairs that a loop over the headers gives.
 fn looped(alloc: Global, headers: &Headers) -> Mem<String> {
-    let mut answers = String::new(alloc);
+    let mut pairs = String::new(alloc);
     for (name, value) in headers {
-        push_pair(&mut answers, name, value)?;
+        push_pair(&mut pairs, name, value)?;
     }
-    Ok(answers)
+    Ok(pairs)
 }
 
-fn push_pair(answers: &mut String, name: &str, value: &str) -> Mem<()> {
-    let gap = if answers.is_empty() { "" } else { " | " };
-    write!(answers, "{gap}{name}={value}")
+fn push_pair(pairs: &mut String, name: &str, value: &str) -> Mem<()> {
+    let gap = if pairs.is_empty() { "" } else { " | " };
+    write!(pairs, "{gap}{name}={value}")
 }
 
 // The headers that are collected from pairs.
@@ -118,7 +95,7 @@ fn collected(alloc: Global, words: &[&str]) -> Mem<String> {
         given.push(halves(word))?;
     }
     let headers: Headers = given.into_iter().collect(alloc)?;
-    pairs(alloc, &headers)
+    headers.shown(alloc)
 }
 
 fn put_all(headers: &mut Headers, steps: &[&str]) -> Mem<()> {
@@ -129,63 +106,64 @@ fn put_all(headers: &mut Headers, steps: &[&str]) -> Mem<()> {
     Ok(())
 }
 
-// A copy of a request that was made of a method and a target.
-fn copied_request(
-    alloc: Global,
-    method: &str,
-    target: &str,
-    body: &str,
-    steps: &[&str],
-) -> Mem<String> {
-    let mut request = HttpRequest::new(alloc, method, target)?;
-    copied_with(alloc, &mut request, body, steps)
+// A copy of a request that was made of a method, a target, a body and headers.
+fn copied_request(alloc: Global, words: &[&str]) -> Mem<String> {
+    let mut request = HttpRequest::new(alloc, word(words, 0), word(words, 1))?;
+    put_all(&mut request.headers, words_from(words, 3))?;
+    request.body = shared(alloc, word(words, 2))?;
+    copy_shown(alloc, request.try_clone())
 }
 
-fn copied_with(
-    alloc: Global,
-    request: &mut HttpRequest,
-    body: &str,
-    steps: &[&str],
-) -> Mem<String> {
-    put_all(&mut request.headers, steps)?;
-    request.body = shared(alloc, body)?;
-    whole(alloc, &request.try_clone()?)
+impl Shown for HttpRequest {
+    fn shown(&self, alloc: Global) -> Mem<String> {
+        let body = quoted(alloc, self.body.as_slice())?;
+        let mut text = format!(in alloc; "{} {} {body}", self.method, self.target)?;
+        push_pairs(&mut text, &self.headers)?;
+        Ok(text)
+    }
 }
 
-fn whole(alloc: Global, request: &HttpRequest) -> Mem<String> {
-    let body = quoted(alloc, request.body.as_slice())?;
-    let mut answers = format!(in alloc; "{} {} {body}", request.method, request.target)?;
-    push_pairs(&mut answers, &request.headers)?;
-    Ok(answers)
-}
-
-fn copied_response(alloc: Global, status: &str, skew: &str, steps: &[&str]) -> Mem<String> {
+fn copied_response(alloc: Global, words: &[&str]) -> Mem<String> {
     let mut response = HttpResponse {
-        status: status.parse().unwrap_or(0),
+        status: word(words, 0).parse().unwrap_or(0),
         headers: Headers::new(alloc),
-        skew: skew.parse().ok(),
+        skew: word(words, 1).parse().ok(),
     };
-    put_all(&mut response.headers, steps)?;
-    response_shown(alloc, &response.try_clone()?)
+    put_all(&mut response.headers, words_from(words, 2))?;
+    copy_shown(alloc, response.try_clone())
 }
 
-fn response_shown(alloc: Global, response: &HttpResponse) -> Mem<String> {
-    let mut answers = format!(in alloc; "{} {:?}", response.status, response.skew)?;
-    push_pairs(&mut answers, &response.headers)?;
-    Ok(answers)
+impl Shown for HttpResponse {
+    fn shown(&self, alloc: Global) -> Mem<String> {
+        let mut text = format!(in alloc; "{} {:?}", self.status, self.skew)?;
+        push_pairs(&mut text, &self.headers)?;
+        Ok(text)
+    }
+}
+
+// A copy of who signs.
+fn of_signer(alloc: Global, call: &str, signer: Credentials) -> Mem<String> {
+    match call {
+        "copied_credentials" => copy_shown(alloc, signer.try_clone()),
+        "copied_identity" => copied_identity(alloc, Identity::Credentials(signer)),
+        _ => copied_identity(alloc, Identity::from(signer)),
+    }
+}
+
+fn copied_token(alloc: Global, token: &str) -> Mem<String> {
+    copied_identity(alloc, Identity::Token(String::from_str(alloc, token)?))
+}
+
+fn copied_identity(alloc: Global, identity: Identity) -> Mem<String> {
+    copy_shown(alloc, identity.try_clone())
 }
 
 // The credentials of a key's id, a secret, a token, empty for none, and an expiry.
-fn credentials(
-    alloc: Global,
-    key_id: &str,
-    secret: &str,
-    token: &str,
-    expiry: Option<Moment>,
-) -> Mem<Credentials> {
-    let key_id = String::from_str(alloc, key_id)?;
-    let secret = String::from_str(alloc, secret)?;
-    Ok(Credentials::new(key_id, secret, unless_empty(alloc, token)?, expiry))
+fn credentials(alloc: Global, words: &[&str]) -> Mem<Credentials> {
+    let key_id = String::from_str(alloc, word(words, 0))?;
+    let secret = String::from_str(alloc, word(words, 1))?;
+    let token = unless_empty(alloc, word(words, 2))?;
+    Ok(Credentials::new(key_id, secret, token, expiry_of(word(words, 3))))
 }
 
 fn expiry_of(word: &str) -> Option<Moment> {
@@ -195,24 +173,19 @@ fn expiry_of(word: &str) -> Option<Moment> {
     Some(moment_of(word))
 }
 
-fn parts_of(alloc: Global, signer: &Credentials) -> Mem<String> {
-    format!(in alloc;
-        "{} {} {:?} {:?}",
-        signer.access_key_id(),
-        signer.secret_access_key(),
-        signer.session_token(),
-        signer.expiry().map(Moment::secs)
-    )
+impl Shown for Credentials {
+    fn shown(&self, alloc: Global) -> Mem<String> {
+        let (key_id, secret) = (self.access_key_id(), self.secret_access_key());
+        let (token, expiry) = (self.session_token(), self.expiry().map(Moment::secs));
+        format!(in alloc; "{key_id} {secret} {token:?} {expiry:?}")
+    }
 }
 
-fn copied_identity(alloc: Global, identity: &Identity) -> Mem<String> {
-    let copy = identity.try_clone()?;
-    signer(alloc, &copy)
-}
-
-fn signer(alloc: Global, identity: &Identity) -> Mem<String> {
-    match identity {
-        Identity::Credentials(signer) => parts_of(alloc, signer),
-        Identity::Token(token) => format!(in alloc; "token {token}"),
+impl Shown for Identity {
+    fn shown(&self, alloc: Global) -> Mem<String> {
+        match self {
+            Identity::Credentials(signer) => signer.shown(alloc),
+            Identity::Token(token) => format!(in alloc; "token {token}"),
+        }
     }
 }

@@ -1,72 +1,57 @@
-use crate::shown::{digits, moment};
-use crate::words::{header_of, message_of};
+use crate::shown::{Shown, digits, unless_error};
+use crate::words::{header_of, message_of, word};
 use eventstream::{
     Error, ResponseHeaders, expect_bool, expect_byte, expect_byte_array, expect_int16,
     expect_int32, expect_int64, expect_string, expect_timestamp, parse_response_headers,
 };
-use smithy_core::{Header, Mem};
+use smithy_core::{Blob, Header, Mem, Message};
 use std::alloc::Global;
 use std::fmt::Display;
 use tool_case_lines::unknown;
 
-pub fn answer(alloc: Global, call: &[&str]) -> Mem<String> {
+pub fn answer(alloc: Global, call: &str, words: &[&str]) -> Mem<String> {
     match call {
-        ["headers", headers @ .., payload] => headers_of(alloc, headers, payload),
-        [kind, header] => expected(alloc, kind, &header_of(alloc, header)?),
-        _ => unknown(alloc),
+        "headers" => headers(alloc, message_of(alloc, words)?),
+        kind => expected(alloc, kind, header_of(alloc, word(words, 0))?),
     }
 }
 
-fn headers_of(alloc: Global, headers: &[&str], payload: &str) -> Mem<String> {
-    let message = message_of(alloc, headers, payload)?;
-    match parse_response_headers(alloc, &message) {
-        Ok(headers) => parsed(alloc, &headers),
-        Err(error) => error.to_string(alloc),
+fn headers(alloc: Global, message: Message) -> Mem<String> {
+    unless_error(alloc, parse_response_headers(alloc, &message))
+}
+
+impl Shown for ResponseHeaders<'_> {
+    // The message type, the smithy type and the content type.
+    fn shown(&self, alloc: Global) -> Mem<String> {
+        let (message, smithy) = (self.message_type.as_str(), self.smithy_type.as_str());
+        format!(in alloc; "{message} {smithy} {:?}", self.content_type())
     }
 }
 
-// The message type, the smithy type and the content type.
-fn parsed(alloc: Global, headers: &ResponseHeaders<'_>) -> Mem<String> {
-    format!(in alloc;
-        "{} {} {:?}",
-        headers.message_type.as_str(),
-        headers.smithy_type.as_str(),
-        headers.content_type()
-    )
+impl Shown for Blob {
+    fn shown(&self, alloc: Global) -> Mem<String> {
+        digits(alloc, self.as_ref())
+    }
 }
 
 // The value that a call for one kind gives.
-fn expected(alloc: Global, kind: &str, header: &Header) -> Mem<String> {
+fn expected(alloc: Global, kind: &str, header: Header) -> Mem<String> {
     match kind {
-        "expect_bool" => plain(alloc, expect_bool(alloc, header)),
-        "expect_byte" => plain(alloc, expect_byte(alloc, header)),
-        "expect_int16" => plain(alloc, expect_int16(alloc, header)),
-        "expect_int32" => plain(alloc, expect_int32(alloc, header)),
-        "expect_int64" => plain(alloc, expect_int64(alloc, header)),
-        "expect_string" => plain(alloc, expect_string(alloc, header)),
-        "expect_byte_array" => expected_bytes(alloc, header),
-        "expect_timestamp" => expected_moment(alloc, header),
+        "expect_bool" => plain(alloc, expect_bool(alloc, &header)),
+        "expect_byte" => plain(alloc, expect_byte(alloc, &header)),
+        "expect_int16" => plain(alloc, expect_int16(alloc, &header)),
+        "expect_int32" => plain(alloc, expect_int32(alloc, &header)),
+        "expect_int64" => plain(alloc, expect_int64(alloc, &header)),
+        "expect_string" => plain(alloc, expect_string(alloc, &header)),
+        "expect_byte_array" => unless_error(alloc, expect_byte_array(alloc, &header)),
+        "expect_timestamp" => unless_error(alloc, expect_timestamp(alloc, &header)),
         _ => unknown(alloc),
-    }
-}
-
-fn expected_bytes(alloc: Global, header: &Header) -> Mem<String> {
-    match expect_byte_array(alloc, header) {
-        Ok(bytes) => digits(alloc, bytes.as_ref()),
-        Err(error) => error.to_string(alloc),
-    }
-}
-
-fn expected_moment(alloc: Global, header: &Header) -> Mem<String> {
-    match expect_timestamp(alloc, header) {
-        Ok(time) => moment(alloc, time),
-        Err(error) => error.to_string(alloc),
     }
 }
 
 fn plain<T: Display + Drop>(alloc: Global, answer: Result<T, Error>) -> Mem<String> {
     match answer {
-        Ok(value) => format!(in alloc; "{value}"),
+        Ok(value) => value.to_string(alloc),
         Err(error) => error.to_string(alloc),
     }
 }

@@ -1,44 +1,30 @@
 use crate::shown::{digits, nothing};
-use crate::steps::{Steps, answers_of};
+use crate::steps::Steps;
 use crate::words::{shared, size_of};
 use bytes::Bytes;
 use seg_buf::SegBuf;
-use std::alloc::{AllocError, Global};
+use smithy_core::Mem;
+use std::alloc::Global;
 use tool_case_lines::halves;
 
-// The answers of these steps on one buffer.
-pub fn answer(alloc: Global, steps: &[&str]) -> Result<String, AllocError> {
-    answers_of(alloc, &mut SegBuf::new(alloc), steps)
-}
-
 impl Steps for SegBuf {
-    fn after(&mut self, alloc: Global, step: &str) -> Result<String, AllocError> {
+    fn after(&mut self, alloc: Global, step: &str) -> Mem<String> {
         let (step, word) = halves(step);
         match step {
-            "push" => push(alloc, self, shared(alloc, word)?),
-            "push_slice" => push_slice(alloc, self, shared(alloc, word)?.as_slice()),
+            "push" => push_piece(alloc, self, shared(alloc, word)?),
+            "push_slice" => push_slice(alloc, self, shared(alloc, word)?),
             "peek" => peek(alloc, self, size_of(word)),
-            "advance" => advance(alloc, self, size_of(word)),
-            "front" => front(alloc, self, size_of(word)),
-            "take" => take(alloc, self, size_of(word)),
-            _ => after_bare(alloc, self, step),
+            "left" => left(alloc, self),
+            "first" => first(alloc, self),
+            "prelude" => prelude(alloc, self),
+            "copy" => copy(alloc, self),
+            _ => of_front(alloc, self, step, size_of(word)),
         }
     }
 }
 
-// A step of a name alone.
-fn after_bare(alloc: Global, buffer: &mut SegBuf, step: &str) -> Result<String, AllocError> {
-    match step {
-        "left" => left(alloc, buffer),
-        "first" => first(alloc, buffer),
-        "prelude" => prelude(alloc, buffer),
-        "copy" => copy(alloc, buffer),
-        _ => String::from_str(alloc, "no such step"),
-    }
-}
-
 // Appends a piece.
-pub fn push(alloc: Global, buffer: &mut SegBuf, piece: Bytes) -> Result<String, AllocError> {
+pub fn push_piece(alloc: Global, buffer: &mut SegBuf, piece: Bytes) -> Mem<String> {
     if buffer.remaining().checked_add(piece.len()).is_none() {
         return String::from_str(alloc, "too long");
     }
@@ -48,27 +34,27 @@ pub fn push(alloc: Global, buffer: &mut SegBuf, piece: Bytes) -> Result<String, 
 }
 
 // Appends a copy of a piece.
-fn push_slice(alloc: Global, buffer: &mut SegBuf, piece: &[u8]) -> Result<String, AllocError> {
+fn push_slice(alloc: Global, buffer: &mut SegBuf, piece: Bytes) -> Mem<String> {
     if buffer.remaining().checked_add(piece.len()).is_none() {
         return String::from_str(alloc, "too long");
     }
-    buffer.push_slice(piece)?;
+    buffer.push_slice(piece.as_slice())?;
     nothing(alloc)
 }
 
-fn first(alloc: Global, buffer: &SegBuf) -> Result<String, AllocError> {
+fn first(alloc: Global, buffer: &SegBuf) -> Mem<String> {
     match buffer.first() {
         Some(segment) => digits(alloc, segment),
         None => String::from_str(alloc, "none"),
     }
 }
 
-pub fn left(alloc: Global, buffer: &SegBuf) -> Result<String, AllocError> {
+pub fn left(alloc: Global, buffer: &SegBuf) -> Mem<String> {
     let left = buffer.remaining();
     format!(in alloc; "{left} left")
 }
 
-fn peek(alloc: Global, buffer: &SegBuf, at: usize) -> Result<String, AllocError> {
+fn peek(alloc: Global, buffer: &SegBuf, at: usize) -> Mem<String> {
     if at >= buffer.remaining() {
         return String::from_str(alloc, "past the end");
     }
@@ -76,39 +62,37 @@ fn peek(alloc: Global, buffer: &SegBuf, at: usize) -> Result<String, AllocError>
     format!(in alloc; "{byte:02x}")
 }
 
-fn advance(alloc: Global, buffer: &mut SegBuf, n: usize) -> Result<String, AllocError> {
+// A step on so many bytes.
+fn of_front(alloc: Global, buffer: &mut SegBuf, step: &str, n: usize) -> Mem<String> {
     if n > buffer.remaining() {
         return String::from_str(alloc, "past the end");
     }
-    buffer.advance(n);
-    nothing(alloc)
-}
-
-fn front(alloc: Global, buffer: &SegBuf, n: usize) -> Result<String, AllocError> {
-    if n > buffer.remaining() {
-        return String::from_str(alloc, "past the end");
+    match step {
+        "front" => digits(alloc, buffer.copy_front(n)?.as_slice()),
+        "take" => digits(alloc, buffer.copy_to_bytes(n)?.as_slice()),
+        _ => {
+            buffer.advance(n);
+            nothing(alloc)
+        }
     }
-    digits(alloc, buffer.copy_front(n)?.as_slice())
 }
 
-fn take(alloc: Global, buffer: &mut SegBuf, n: usize) -> Result<String, AllocError> {
-    if n > buffer.remaining() {
-        return String::from_str(alloc, "past the end");
-    }
-    digits(alloc, buffer.copy_to_bytes(n)?.as_slice())
-}
-
-fn prelude(alloc: Global, buffer: &mut SegBuf) -> Result<String, AllocError> {
+fn prelude(alloc: Global, buffer: &mut SegBuf) -> Mem<String> {
     if buffer.remaining() < 12 {
         return String::from_str(alloc, "past the end");
     }
     digits(alloc, buffer.take_prelude().as_slice())
 }
 
-// Goes on with a copy, once the first buffer was emptied.
-fn copy(alloc: Global, buffer: &mut SegBuf) -> Result<String, AllocError> {
+// Goes on with a copy.
+fn copy(alloc: Global, buffer: &mut SegBuf) -> Mem<String> {
+    *buffer = emptied(buffer)?;
+    nothing(alloc)
+}
+
+// The copy of a buffer, which is emptied.
+fn emptied(buffer: &mut SegBuf) -> Mem<SegBuf> {
     let copy = buffer.try_clone()?;
     buffer.advance(buffer.remaining());
-    *buffer = copy;
-    nothing(alloc)
+    Ok(copy)
 }

@@ -1,9 +1,8 @@
 ghost use Rattle.std.specs.Prelude.{◌≤◌, length, IfOk};
-ghost use Rattle.smithy_core.specs.FrameSource.{AreShort};
+ghost use Rattle.smithy_core.specs.FrameSource.{AreShort, IsShort};
 
-use crate::requests::pairs;
-use crate::shown::{push_given, quoted, told};
-use crate::words::{numbers_of, shared, size_of};
+use crate::shown::{Shown, copy_shown, labelled, push};
+use crate::words::{numbers_of, shared, size_of, word};
 use bytes::Bytes;
 use smithy_core::{CalmFrames, FaultyFrames, FramePart, FrameSource, Headers, Mem, Polled};
 use std::alloc::Global;
@@ -12,37 +11,55 @@ use tool_case_lines::{halves, unknown};
 // The longest piece of data, in bytes.
 const LONGEST: usize = 4_294_967_295;
 
-pub fn answer(alloc: Global, call: &[&str]) -> Mem<String> {
+pub fn answer(alloc: Global, call: &str, words: &[&str]) -> Mem<String> {
+    let first = word(words, 0);
     match call {
-        ["copied_frame", word] => {
-            let copy = frame_of(alloc, word)?.try_clone()?;
-            polled(alloc, &Polled::from(copy))
-        }
-        ["copied_answer", word] => polled(alloc, &answer_of(alloc, word)?.try_clone()?),
-        ["faulty", words @ ..] => faulty(alloc, words),
-        ["empty", words @ ..] => empty(alloc, words),
-        ["calm", words @ ..] => calm(alloc, words),
+        "copied_frame" => copied_frame(alloc, frame_of(alloc, first)?),
+        "copied_answer" => copied_answer(alloc, answer_of(alloc, first)?),
+        "faulty" => faulty(alloc, words),
+        "empty" => empty(alloc, words),
+        "calm" => calm(alloc, words),
         _ => unknown(alloc),
     }
 }
 
+fn copied_frame(alloc: Global, frame: FramePart) -> Mem<String> {
+    Polled::from(frame.try_clone()?).shown(alloc)
+}
+
+fn copied_answer(alloc: Global, answer: Polled) -> Mem<String> {
+    copy_shown(alloc, answer.try_clone())
+}
+
 // The first polls of a source of data and trailers, and then those of its copy.
 fn faulty(alloc: Global, words: &[&str]) -> Mem<String> {
-    let [data, pair, fails, waits, first, count] = words else {
-        return unknown(alloc);
-    };
+    let frames = data_and_trailers(alloc, word(words, 0), word(words, 1))?;
+    let mut source = faulty_of(alloc, frames, word(words, 2), word(words, 3))?;
+    let answers = polls(alloc, &mut source, size_of(word(words, 4)))?;
+    with_copy(alloc, answers, source.try_clone(), size_of(word(words, 5)))
+}
+
+fn faulty_of(alloc: Global, frames: Vec<FramePart>, fails: &str, waits: &str) -> Mem<FaultyFrames>
+    requires { AreShort frames.items }
+{
     let fails = numbers_of(alloc, fails)?;
-    let waits = numbers_of(alloc, waits)?;
-    let mut source = FaultyFrames::new(data_and_trailers(alloc, data, pair)?, fails, waits);
-    polled_faulty(alloc, &mut source, size_of(first), size_of(count))
+    Ok(FaultyFrames::new(frames, fails, numbers_of(alloc, waits)?))
 }
 
 fn data_and_trailers(alloc: Global, data: &str, pair: &str) -> Mem<Vec<FramePart>>
     ensures { IfOk result (λ frames. AreShort frames.items) }
 {
-    let data = FramePart::Data(piece_of(alloc, data)?);
-    let trailers = FramePart::Trailers(trailers_of(alloc, pair)?);
-    Ok(vec![in alloc; data, trailers]?)
+    let data = piece_of(alloc, data)?;
+    let trailers = trailers_of(alloc, pair)?;
+    both(alloc, FramePart::Data(data), FramePart::Trailers(trailers))
+}
+
+fn both(alloc: Global, first: FramePart, second: FramePart) -> Mem<Vec<FramePart>>
+    requires first { IsShort first }
+    requires second { IsShort second }
+    ensures { IfOk result (λ frames. AreShort frames.items) }
+{
+    Ok(vec![in alloc; first, second]?)
 }
 
 // A piece of data, which is empty in place of one that would be too long.
@@ -56,52 +73,35 @@ fn piece_of(alloc: Global, word: &str) -> Mem<Bytes>
     Ok(piece)
 }
 
-fn polled_faulty(
-    alloc: Global,
-    source: &mut FaultyFrames,
-    first: usize,
-    count: usize,
-) -> Mem<String> {
-    let mut answers = polls(alloc, source, first)?;
-    let mut copy = source.try_clone()?;
-    push_given(&mut answers, polls(alloc, &mut copy, count))?;
-    Ok(answers)
-}
-
 fn empty(alloc: Global, words: &[&str]) -> Mem<String> {
-    let [fails, waits, count] = words else {
-        return unknown(alloc);
-    };
-    let fails = numbers_of(alloc, fails)?;
-    let waits = numbers_of(alloc, waits)?;
-    polls(
-        alloc,
-        &mut FaultyFrames::new(Vec::new(alloc), fails, waits),
-        size_of(count),
-    )
+    let mut source = faulty_of(alloc, Vec::new(alloc), word(words, 0), word(words, 1))?;
+    polls(alloc, &mut source, size_of(word(words, 2)))
 }
 
 // The first polls of a source of two pieces of data, and then those of its copy.
 fn calm(alloc: Global, words: &[&str]) -> Mem<String> {
-    let [left, right, first, count] = words else {
-        return unknown(alloc);
-    };
-    let mut source = CalmFrames::new(two_pieces(alloc, left, right)?);
-    polled_calm(alloc, &mut source, size_of(first), size_of(count))
+    let mut source = CalmFrames::new(two_pieces(alloc, word(words, 0), word(words, 1))?);
+    let answers = polls(alloc, &mut source, size_of(word(words, 2)))?;
+    with_copy(alloc, answers, source.try_clone(), size_of(word(words, 3)))
 }
 
 fn two_pieces(alloc: Global, left: &str, right: &str) -> Mem<Vec<FramePart>>
     ensures { IfOk result (λ frames. AreShort frames.items) }
 {
-    let left = FramePart::Data(piece_of(alloc, left)?);
-    let right = FramePart::Data(piece_of(alloc, right)?);
-    Ok(vec![in alloc; left, right]?)
+    let left = piece_of(alloc, left)?;
+    let right = piece_of(alloc, right)?;
+    both(alloc, FramePart::Data(left), FramePart::Data(right))
 }
 
-fn polled_calm(alloc: Global, source: &mut CalmFrames, first: usize, count: usize) -> Mem<String> {
-    let mut answers = polls(alloc, source, first)?;
-    let mut copy = source.try_clone()?;
-    push_given(&mut answers, polls(alloc, &mut copy, count))?;
+// With what so many polls of a copy answer.
+fn with_copy<S: FrameSource + Drop>(
+    alloc: Global,
+    answers: String,
+    copy: Mem<S>,
+    count: usize,
+) -> Mem<String> {
+    let mut answers = answers;
+    push(&mut answers, polls(alloc, &mut copy?, count))?;
     Ok(answers)
 }
 
@@ -109,23 +109,21 @@ fn polled_calm(alloc: Global, source: &mut CalmFrames, first: usize, count: usiz
 fn polls<S: FrameSource>(alloc: Global, source: &mut S, count: usize) -> Mem<String> {
     let mut answers = String::new(alloc);
     for _ in 0..count {
-        push_given(&mut answers, poll(alloc, source))?;
+        push(&mut answers, source.poll_frame().shown(alloc))?;
     }
     Ok(answers)
 }
 
-fn poll<S: FrameSource>(alloc: Global, source: &mut S) -> Mem<String> {
-    polled(alloc, &source.poll_frame())
-}
-
-fn polled(alloc: Global, answer: &Polled) -> Mem<String> {
-    match answer {
-        Polled::Data(data) => told(alloc, "data", quoted(alloc, data.as_slice())),
-        Polled::Trailers(trailers) => told(alloc, "trailers", pairs(alloc, trailers)),
-        Polled::NotYet => String::from_str(alloc, "NotYet"),
-        Polled::End => String::from_str(alloc, "End"),
-        Polled::Failed => String::from_str(alloc, "Failed"),
-        Polled::NoMemory => String::from_str(alloc, "NoMemory"),
+impl Shown for Polled {
+    fn shown(&self, alloc: Global) -> Mem<String> {
+        match self {
+            Polled::Data(data) => labelled(alloc, "data", data.shown(alloc)),
+            Polled::Trailers(trailers) => labelled(alloc, "trailers", trailers.shown(alloc)),
+            Polled::NotYet => String::from_str(alloc, "NotYet"),
+            Polled::End => String::from_str(alloc, "End"),
+            Polled::Failed => String::from_str(alloc, "Failed"),
+            Polled::NoMemory => String::from_str(alloc, "NoMemory"),
+        }
     }
 }
 
@@ -140,9 +138,10 @@ fn answer_of(alloc: Global, word: &str) -> Mem<Polled> {
 }
 
 fn frame_of(alloc: Global, word: &str) -> Mem<FramePart> {
-    match halves(word) {
-        ("trailers", pair) => Ok(FramePart::Trailers(trailers_of(alloc, pair)?)),
-        (_, data) => Ok(FramePart::Data(shared(alloc, data)?)),
+    let (kind, rest) = halves(word);
+    match kind {
+        "trailers" => Ok(FramePart::Trailers(trailers_of(alloc, rest)?)),
+        _ => Ok(FramePart::Data(shared(alloc, rest)?)),
     }
 }
 
