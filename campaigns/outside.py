@@ -9,7 +9,6 @@ It needs a C compiler, and the programs built. What no permission does is tried 
 """
 import contextlib
 import errno
-import fcntl
 import os
 import pty
 import resource
@@ -154,8 +153,6 @@ MOST_NUMBERS = 400
 # Seconds after which a run counts as one that doesn't end.
 MOST_SECONDS = 60
 NOBODY = 65534
-# The number of Linux's call of fcntl that sets how much a pipe holds.
-F_SETPIPE_SZ = 1031
 
 runner = runs.Runner()
 counts = {"runs": 0, "failed": 0}
@@ -588,8 +585,7 @@ def left_after(words, taken, ignored):
 def slow_reader(words):
     """What a reader gets that takes a few bytes at a time of a small pipe."""
     with open("large.job", "rb") as file:
-        process = subprocess.Popen(words, stdin=file, env={"HOME": "home"}, stdout=subprocess.PIPE, bufsize=0)
-    fcntl.fcntl(process.stdout, F_SETPIPE_SZ, 4096)
+        process = subprocess.Popen(words, stdin=file, env={"HOME": "home"}, stdout=subprocess.PIPE, bufsize=0, pipesize=4096)
     got = []
     while piece := process.stdout.read(1 + len(got) % 1000):
         got.append(piece)
