@@ -1,6 +1,7 @@
 -- What is told of a signer of messages follows from what it signs, and so does the key that it signs under.
 use Rattle.std.proofs.Common.{◌≡◌, ℕ, List, [], Option, Some, None, sym, ap, ◌∙◌}
-use Rattle.std.specs.Prelude.{Result, Ok, Err, option_copied}
+use Rattle.std.specs.Prelude.{Box, Result, Ok, Err, box_value, option_copied, option_map}
+use Rattle.std.specs.declared.alloc.Global.{Global}
 use Rattle.std.specs.Borrow.{Bor}
 use Rattle.std.specs.Option.{IsSomeAnd, MatchOption}
 use Rattle.smithy_core.specs.Identity.{IsSameIdentity}
@@ -9,12 +10,8 @@ use Rattle.smithy_core.specs.Moment.{Instant}
 use Rattle.smithy_core.specs.declared.identity.Identity.{Identity}
 use Rattle.smithy_core.specs.declared.identity.Identity.TheVariants.{Credentials, Token}
 use Rattle.eventstream.specs.Frame.{frame}
-use Rattle.eventstream.specs.Key.{Signer, signing_key}
 use Rattle.eventstream.specs.Told.{Told, SignsLink, Signs, SignsEmpty, signs_over}
 use Rattle.eventstream.specs.declared.sign_error.SignMessageError.{SignMessageError}
-use Rattle.sigv4.specs.EventStream.{IsKeyOf}
-use Rattle.sigv4.specs.Params.{signer_of, v4_time}
-use Rattle.sigv4.specs.declared.params.SigningParams.{SigningParams}
 use Rattle.sigv4.specs.KeptKey.{Kept}
 use Rattle.aws_auth.specs.MessageSigner.{IsOwnKey, SignerParts, SignerState, SignsBytes, SignsClosing, SignsMessage, running_signature, signer_for, signer_in, told_by, told_of, unsigned_by, unsigned_message_by}
 
@@ -34,10 +31,10 @@ key_copied identity copy region name region_copy name_copy kept kept_copy same r
     rw (regions, names, keys) (copied identity copy region name kept same own)
 
 -- a clone of a key that is kept is that key
-pub key_cloned : (held : Option (Bor Kept)) (kept clone : Option Kept) → option_copied held ≡ kept
-    → MatchOption held (clone ≡ None) (λ key. IsSomeAnd clone (λ own. own ≡ key.now)) → clone ≡ kept
-key_cloned None kept clone is same = same ∙ is
-key_cloned (Some key) kept (Some own) is same = ap Some same ∙ is
+pub key_cloned : (held : Option (Bor (Box Kept Global))) (kept clone : Option (Box Kept Global)) → option_copied held ≡ kept
+    → MatchOption held (clone ≡ None) (λ key. IsSomeAnd clone (λ own. box_value own ≡ box_value key.now)) → option_map box_value clone ≡ option_map box_value kept
+key_cloned None kept clone is same = ap (option_map box_value) (same ∙ is)
+key_cloned (Some key) kept (Some own) is same = ap Some same ∙ ap (option_map box_value) is
 key_cloned (Some key) kept None is same = absurd same
 
 -- who signs stays, whatever is signed

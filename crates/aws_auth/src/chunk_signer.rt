@@ -1,4 +1,4 @@
-ghost use Rattle.std.specs.Prelude.{◌≡◌, IfOk, OnOk, OnErr, string_bytes};
+ghost use Rattle.std.specs.Prelude.{◌≡◌, IfOk, OnOk, OnErr, box_value, string_bytes};
 ghost use Rattle.aws_auth.specs.MessageSigner.{signer_in};
 
 use crate::message_signer::SigV4MessageSigner;
@@ -9,8 +9,8 @@ use smithy_core::{Headers, Mem};
 
 impl SigV4MessageSigner<SigningSettings> {
     // The key of chunks and trailers, which is taken out, or else a new one.
-    fn take_chunk_key(&mut self) -> Mem<KeptKey>
-        ensures own { IfOk result (λ key. key.signer ≡ signer_in self.old) }
+    fn take_chunk_key(&mut self) -> Mem<Box<KeptKey>>
+        ensures own { IfOk result (λ key. (box_value key).signer ≡ signer_in self.old) }
         ensures same { self.new ≡ self.old }
     {
         match self.chunk_key.take() {

@@ -1,4 +1,4 @@
-ghost use Rattle.std.specs.Prelude.{◌≡◌, IfOk, MatchResult, None, OnErr, OnOk, Some};
+ghost use Rattle.std.specs.Prelude.{◌≡◌, IfOk, MatchResult, None, OnErr, OnOk, Some, box_value};
 ghost use Rattle.mac_core.specs.Crc.{after_bytes, before_any};
 ghost use Rattle.sigv4.specs.KeptKey.{no_key};
 ghost use Rattle.aws_auth.specs.MessageSigner.{IsSameSigner, SignsBytes, derivations, own_key, running_signature, signer_from, signer_in, unsigned_by};
@@ -20,9 +20,10 @@ pub struct SigV4MessageSigner<S> {
     pub(crate) name: SigningName,
     pub(crate) time: Moment,
     settings: S,
-    kept: Option<KeptKey>,
+    // Boxed, since a key holds the states of four hashers: most signers of an operation sign nothing, and are moved some times.
+    kept: Option<Box<KeptKey>>,
     // The key of chunks and trailers, which contracts don't see: all are signed at one moment.
-    pub(crate) chunk_key: Option<KeptKey>,
+    pub(crate) chunk_key: Option<Box<KeptKey>>,
 }
 
 // Written out: a derived drop would be taken apart in the proof of each function that drops one.
@@ -49,7 +50,7 @@ impl<S: Drop> Drop for SigV4MessageSigner<S> {
 }
 
 impl<S> Model for SigV4MessageSigner<S> {
-    ghost use Rattle.std.specs.Prelude.{string_bytes};
+    ghost use Rattle.std.specs.Prelude.{box_value, option_map, string_bytes};
     ghost use Rattle.aws_auth.specs.MessageSigner.{IsOwnKey, SignerState, signer_for};
 
     ghost Value = { SignerState S };
@@ -63,11 +64,12 @@ impl<S> Model for SigV4MessageSigner<S> {
         time = signer.time;
         settings = signer.settings;
       };
-      kept = signer.kept;
+      kept = option_map box_value signer.kept;
     } };
 
     ghost invariant = { λ signer.
-        let own = signer_for signer.identity signer.region signer.name in IsOwnKey own signer.kept × IsOwnKey own signer.chunk_key };
+        let own = signer_for signer.identity signer.region signer.name in
+        IsOwnKey own (option_map box_value signer.kept) × IsOwnKey own (option_map box_value signer.chunk_key) };
 }
 
 impl<S> SigV4MessageSigner<S> {
@@ -112,15 +114,16 @@ impl<S> SigV4MessageSigner<S> {
     }
 
     // A key of who signs, not derived yet.
-    pub(crate) fn new_key(&self) -> Mem<KeptKey>
-        ensures { IfOk result (λ kept. kept ≡ no_key (signer_in self.now)) }
+    pub(crate) fn new_key(&self) -> Mem<Box<KeptKey>>
+        ensures { IfOk result (λ kept. box_value kept ≡ no_key (signer_in self.now)) }
     {
         let alloc = *self.running_signature.allocator();
-        Ok(KeptKey::new(
+        let key = KeptKey::new(
             String::from_str(alloc, self.identity.secret())?,
             String::from_str(alloc, self.region.as_str())?,
             String::from_str(alloc, self.name.as_str())?,
-        ))
+        );
+        Ok(Box::new(alloc, key)?)
     }
 }
 
@@ -176,9 +179,9 @@ impl SigV4MessageSigner<()> {
     }
 
     // The key that is kept, which is taken out, or else a new one.
-    fn take_key(&mut self) -> Mem<KeptKey>
-        ensures ok { IfOk result (λ kept. kept ≡ own_key self.old) }
-        ensures own { IfOk result (λ kept. kept.signer ≡ signer_in self.old) }
+    fn take_key(&mut self) -> Mem<Box<KeptKey>>
+        ensures ok { IfOk result (λ kept. box_value kept ≡ own_key self.old) }
+        ensures own { IfOk result (λ kept. (box_value kept).signer ≡ signer_in self.old) }
         ensures taken { OnOk result (self.new ≡ record self.old { kept = None }) }
         ensures err { OnErr result (self.new ≡ self.old) }
     {
