@@ -13,11 +13,11 @@ pub fn answer(alloc: Global, parts: &[&str]) -> Mem<String> {
     let trailers = headers_in(alloc, part_or_none(parts, "trailers"))?;
     let mut headers = headers_in(alloc, part_or_none(parts, "given"))?;
     let options = announced_options(alloc, &trailers, parts)?;
-    let told = match options.announce(alloc, &mut headers, &trailers) {
+    let answer = match options.announce(alloc, &mut headers, &trailers) {
         Ok(payload) => payload,
         Err(fault) => format!(in alloc; "{fault}")?,
     };
-    with_headers(told, &headers)
+    with_headers(answer, &headers)
 }
 
 // The options for the body of the parts `length N` and `signed`; with `declared N,N..` those of these lengths, and with `off` those
@@ -38,9 +38,9 @@ fn announced_options(
 }
 
 // With the headers in order.
-fn with_headers(mut told: String, headers: &Headers) -> Mem<String> {
+fn with_headers(mut answer: String, headers: &Headers) -> Mem<String> {
     for (name, value) in headers.iter() {
-        write!(told, " | {name}: {value}")?;
+        write!(answer, " | {name}: {value}")?;
     }
-    Ok(told)
+    Ok(answer)
 }

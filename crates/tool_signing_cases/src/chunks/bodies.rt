@@ -51,7 +51,7 @@ fn polled<G: SignChunk>(
     let mut text = Vec::new(alloc);
     let mut others = String::new(alloc);
     push_polled(alloc, &mut text, &mut others, &mut body)?;
-    told(alloc, call, text.as_slice(), others.as_str())
+    body_text(alloc, call, text.as_slice(), others.as_str())
 }
 
 fn push_polled<G: SignChunk>(
@@ -70,7 +70,7 @@ fn push_polled<G: SignChunk>(
     Ok(())
 }
 
-fn told(alloc: Global, call: &str, text: &[u8], others: &str) -> Mem<String> {
+fn body_text(alloc: Global, call: &str, text: &[u8], others: &str) -> Mem<String> {
     match call {
         "digest" => {
             let digest = sha256_hex(alloc, text)?;

@@ -10,42 +10,42 @@ use tool_case_lines::{number, part};
 /// The keys at the moments of `at SECONDS ..`, one after another, and how many were derived, as a copy tells it.
 pub fn keys(alloc: Global, parts: &[&str]) -> Mem<String> {
     let mut kept = kept_of(alloc, parts)?;
-    keys_told(alloc, &mut kept, part(parts, "at").unwrap_or(""))
+    keys_text(alloc, &mut kept, part(parts, "at").unwrap_or(""))
 }
 
-fn keys_told(alloc: Global, kept: &mut KeptKey, moments: &str) -> Mem<String> {
-    let mut told = String::new(alloc);
+fn keys_text(alloc: Global, kept: &mut KeptKey, moments: &str) -> Mem<String> {
+    let mut answer = String::new(alloc);
     for seconds in moments.split(' ') {
-        push_key(alloc, &mut told, kept, Moment::new(number(seconds), 0))?;
+        push_key(alloc, &mut answer, kept, Moment::new(number(seconds), 0))?;
     }
-    write!(told, "derived {}", kept.try_clone()?.derivations())?;
-    Ok(told)
+    write!(answer, "derived {}", kept.try_clone()?.derivations())?;
+    Ok(answer)
 }
 
 // Appends the key at a moment that has one.
-fn push_key(alloc: Global, told: &mut String, kept: &mut KeptKey, at: Moment) -> Mem<()> {
+fn push_key(alloc: Global, answer: &mut String, kept: &mut KeptKey, at: Moment) -> Mem<()> {
     if civil(at).is_none() {
         return Ok(());
     }
     let key = hex::encode(alloc, kept.key(at).as_slice())?;
-    write!(told, "{key} ")
+    write!(answer, "{key} ")
 }
 
 /// The codes of links without bytes at the moments of `at SECONDS ..`, each over the code before it, and how many keys were derived.
 pub fn links(alloc: Global, parts: &[&str]) -> Mem<String> {
     let mut kept = kept_of(alloc, parts)?;
-    links_told(alloc, &mut kept, part(parts, "at").unwrap_or(""))
+    links_text(alloc, &mut kept, part(parts, "at").unwrap_or(""))
 }
 
-fn links_told(alloc: Global, kept: &mut KeptKey, moments: &str) -> Mem<String> {
-    let mut told = String::new(alloc);
+fn links_text(alloc: Global, kept: &mut KeptKey, moments: &str) -> Mem<String> {
+    let mut answer = String::new(alloc);
     let mut last = String::new(alloc);
     for seconds in moments.split(' ') {
         last = next_link(alloc, kept, last.as_str(), Moment::new(number(seconds), 0))?;
-        write!(told, "{last} ")?;
+        write!(answer, "{last} ")?;
     }
-    write!(told, "derived {}", kept.derivations())?;
-    Ok(told)
+    write!(answer, "derived {}", kept.derivations())?;
+    Ok(answer)
 }
 
 // The code of a link at a moment that has one, or else the last one.
@@ -73,10 +73,10 @@ pub fn messages(alloc: Global, parts: &[&str]) -> Mem<String> {
     let identity = identity_of(alloc, parts)?;
     let at = Moment::new(1_440_938_160, 0);
     let mut signer = message_signer(alloc, identity, "", "service", at, ())?;
-    messages_told(alloc, &mut signer, parts)
+    messages_text(alloc, &mut signer, parts)
 }
 
-fn messages_told(
+fn messages_text(
     alloc: Global,
     signer: &mut SigV4MessageSigner<()>,
     parts: &[&str],

@@ -19,27 +19,27 @@ pub fn answer(alloc: Global, call: &str, parts: &[&str]) -> Mem<String> {
 }
 
 fn answer_of(alloc: Global, call: &str, request: &mut HttpRequest, parts: &[&str]) -> Mem<String> {
-    let told = match signed(alloc, request, parts) {
-        Ok(signed) => told(alloc, call, &signed)?,
+    let answer = match signed(alloc, request, parts) {
+        Ok(signed) => signed_text(alloc, call, &signed)?,
         Err(error) => debugged(alloc, &error)?,
     };
     if call == "sign" {
-        return with_request(alloc, told.as_str(), request);
+        return with_request(alloc, answer.as_str(), request);
     }
-    Ok(told)
+    Ok(answer)
 }
 
-fn told(alloc: Global, call: &str, signed: &Signed) -> Mem<String> {
+fn signed_text(alloc: Global, call: &str, signed: &Signed) -> Mem<String> {
     match call {
-        "sign" => signature_told(alloc, signed),
+        "sign" => signature_text(alloc, signed),
         "debug" => debugged(alloc, signed),
-        "message_signer" => signer_told(alloc, &signed.message_signer.try_clone()?),
-        "chunk_signer" => signer_told(alloc, &signed.chunk_signer.try_clone()?),
-        _ => copy_told(alloc, &signed.try_clone()?),
+        "message_signer" => signer_text(alloc, &signed.message_signer.try_clone()?),
+        "chunk_signer" => signer_text(alloc, &signed.chunk_signer.try_clone()?),
+        _ => copy_text(alloc, &signed.try_clone()?),
     }
 }
 
-fn signature_told(alloc: Global, signed: &Signed) -> Mem<String> {
+fn signature_text(alloc: Global, signed: &Signed) -> Mem<String> {
     let signature = signed.signature.as_str();
     let for_messages = signed.message_signer.running_signature() == signature;
     let for_chunks = signed.chunk_signer.running_signature() == signature;
@@ -52,15 +52,15 @@ fn signature_told(alloc: Global, signed: &Signed) -> Mem<String> {
 }
 
 // The signature and both signers.
-fn copy_told(alloc: Global, signed: &Signed) -> Mem<String> {
-    let messages = signer_told(alloc, &signed.message_signer)?;
-    let chunks = signer_told(alloc, &signed.chunk_signer)?;
+fn copy_text(alloc: Global, signed: &Signed) -> Mem<String> {
+    let messages = signer_text(alloc, &signed.message_signer)?;
+    let chunks = signer_text(alloc, &signed.chunk_signer)?;
     let signature = signed.signature.as_str();
     format!(in alloc; "{signature} {messages} {chunks}")
 }
 
 // For what a signer signs, its last signature and how many keys it derived.
-fn signer_told<S>(alloc: Global, signer: &SigV4MessageSigner<S>) -> Mem<String> {
+fn signer_text<S>(alloc: Global, signer: &SigV4MessageSigner<S>) -> Mem<String> {
     let (signature, derivations) = (signer.running_signature(), signer.derivations());
     format!(in alloc; "{signer:?} {signature} derived {derivations}")
 }
@@ -68,11 +68,11 @@ fn signer_told<S>(alloc: Global, signer: &SigV4MessageSigner<S>) -> Mem<String> 
 // With the method and the target, and then the headers in order.
 fn with_request(alloc: Global, signed: &str, request: &HttpRequest) -> Mem<String> {
     let (method, target) = (request.method.as_str(), request.target.as_str());
-    let mut told = format!(in alloc; "{signed}: {method} {target}")?;
+    let mut answer = format!(in alloc; "{signed}: {method} {target}")?;
     for (name, value) in request.headers.iter() {
-        write!(told, " | {name}: {value}")?;
+        write!(answer, " | {name}: {value}")?;
     }
-    Ok(told)
+    Ok(answer)
 }
 
 fn signed(

@@ -69,19 +69,19 @@ fn refused<E: fmt::Debug>(
 ) -> Mem<String> {
     match error {
         SdkError::ResponseError { source, raw } => {
-            let raw = told(alloc, raw)?;
+            let raw = raw_text(alloc, raw)?;
             format!(in alloc; "{source:?} {raw}")
         }
         SdkError::ServiceError { source, raw } => {
-            let raw = told(alloc, raw)?;
+            let raw = raw_text(alloc, raw)?;
             format!(in alloc; "ServiceError {source:?} {raw}")
         }
         error => debugged(alloc, error),
     }
 }
 
-// The frame of the message, or the bytes that are told.
-fn told(alloc: Global, raw: &RawMessage) -> Mem<String> {
+// The frame of the message, or the bytes that it holds.
+fn raw_text(alloc: Global, raw: &RawMessage) -> Mem<String> {
     match raw {
         RawMessage::Decoded(message) => {
             let frame = framed(alloc, message)?;

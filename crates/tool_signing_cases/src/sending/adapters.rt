@@ -147,14 +147,14 @@ where
     let mut answers = String::new(alloc);
     for _ in 0..number_of(parts, "polls", 1) {
         let next = adapter.poll_next(&mut clock, &mut moments);
-        push(&mut answers, next_told(alloc, next))?;
+        push(&mut answers, next_text(alloc, next))?;
     }
     push_moments(&mut answers, moments.as_slice())?;
     Ok(answers)
 }
 
 /// The frame of an answer, or its name.
-pub fn next_told(
+pub fn next_text(
     alloc: Global,
     next: Result<Next, SdkError<AdapterFault, AdapterFault, RawMessage>>,
 ) -> Mem<String> {

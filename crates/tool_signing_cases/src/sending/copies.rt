@@ -1,6 +1,6 @@
 //! What copies show: the same as what they were made of.
 use crate::parts::{copy_shown, frame_or_error, number_of, word};
-use crate::sending::adapters::next_told;
+use crate::sending::adapters::next_text;
 use crate::sending::errors::{self, fault_of, sign_error_of};
 use crate::sending::events::{given, item_of, items_of};
 use crate::sending::marshalling::marshalled;
@@ -38,7 +38,7 @@ fn next(alloc: Global, word: &str) -> Mem<String> {
         "End" => Next::End,
         digits => Next::Frame(Bytes::from_vec(bytes_of_hex(alloc, digits)?)?),
     };
-    next_told(alloc, Ok(next.try_clone()?))
+    next_text(alloc, Ok(next.try_clone()?))
 }
 
 fn polled(alloc: Global, word: &str) -> Mem<String> {

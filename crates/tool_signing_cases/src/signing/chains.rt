@@ -10,7 +10,7 @@ pub fn answer(alloc: Global, seed: &str, secret: &str, name: &str, frames: &str)
     let bytes = bytes_of_hex(alloc, frames)?;
     match check_chain(alloc, bytes.as_slice(), seed, secret, "us-east-1", name) {
         Ok(events) => frames_of(alloc, events.as_slice()),
-        Err(fault) => told(alloc, fault),
+        Err(fault) => fault_text(alloc, fault),
     }
 }
 
@@ -22,7 +22,7 @@ fn frames_of(alloc: Global, events: &[Message]) -> Mem<String> {
     Ok(text)
 }
 
-fn told(alloc: Global, fault: ChainFault) -> Mem<String> {
+fn fault_text(alloc: Global, fault: ChainFault) -> Mem<String> {
     match fault {
         ChainFault::NotChain { frame, part } => format!(in alloc; "{frame} {part:?}"),
         ChainFault::Mismatch {

@@ -17,7 +17,7 @@ fn checked(alloc: Global, call: &str, request: &HttpRequest, words: &[&str]) -> 
     let (region, name) = (region_of(words), name_of(words));
     let secret = part(words, "secret").unwrap_or("wJalrXUtnFEMI/K7MDENG+bPxRfiCYEXAMPLEKEY");
     match check_request(alloc, request, &settings, region, name, &body, secret) {
-        Ok(checked) if call == "sealed" => seal_told(alloc, &checked.seal),
+        Ok(checked) if call == "sealed" => seal_text(alloc, &checked.seal),
         Ok(checked) => format!(in alloc; "ok {} {}", checked.carried, checked.recomputed),
         Err(CheckRequestFault::NoSignature) => String::from_str(alloc, "NoSignature"),
         Err(CheckRequestFault::Signing(error)) => format!(in alloc; "Signing {error}"),
@@ -26,7 +26,7 @@ fn checked(alloc: Global, call: &str, request: &HttpRequest, words: &[&str]) -> 
 }
 
 // Where a seal is, who signed, in which second and which headers, and for how long it is good.
-fn seal_told(alloc: Global, seal: &Seal) -> Mem<String> {
+fn seal_text(alloc: Global, seal: &Seal) -> Mem<String> {
     let (place, at, expires) = (seal.place(), seal.at().secs(), seal.expires());
     format!(in alloc;
         "{place:?} {} {at} {} {expires:?}",

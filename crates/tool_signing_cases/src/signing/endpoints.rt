@@ -84,12 +84,12 @@ fn resolve_error(alloc: Global, message: &str, why: &str) -> Mem<String> {
 }
 
 fn with_bare(alloc: Global, error: ResolveEndpointError) -> Mem<String> {
-    let text = from_told(alloc, &error)?;
-    let bare = from_told(alloc, &error.with_source(None))?;
+    let text = source_text(alloc, &error)?;
+    let bare = source_text(alloc, &error.with_source(None))?;
     format!(in alloc; "{text}; {bare}")
 }
 
-fn from_told(alloc: Global, error: &ResolveEndpointError) -> Mem<String> {
+fn source_text(alloc: Global, error: &ResolveEndpointError) -> Mem<String> {
     let source = error.source();
     format!(in alloc; "{error}, from {source:?}")
 }

@@ -32,7 +32,7 @@ fn answer_of(
     let identity = identity_of(alloc, parts)?;
     match signed(alloc, call, message, last, &identity, parts) {
         Ok(output) if call == "link_headers" => headers_of(alloc, output.output()),
-        Ok(output) => told(alloc, &output),
+        Ok(output) => message_text(alloc, &output),
         Err(error) => refusal(alloc, &error),
     }
 }
@@ -101,7 +101,7 @@ fn header_of(alloc: Global, text: &str) -> Mem<Header> {
     text_header(alloc, name, value)
 }
 
-fn told(alloc: Global, output: &SigningOutput<Message>) -> Mem<String> {
+fn message_text(alloc: Global, output: &SigningOutput<Message>) -> Mem<String> {
     let mut frame = Vec::new(alloc);
     let _ = write_message_to(alloc, output.output(), &mut frame);
     let digest = sha256_hex(alloc, frame.as_slice())?;

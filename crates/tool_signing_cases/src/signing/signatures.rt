@@ -63,7 +63,7 @@ fn answer_under(
     match call {
         "signature" | "instructions" | "apply" | "apply_length" => {
             let output = signed(alloc, signable, params, words)?.try_clone()?;
-            output_told(alloc, call, output, request, words)
+            output_text(alloc, call, output, request, words)
         }
         part => canonical(alloc, part, signable, params),
     }
@@ -125,7 +125,7 @@ fn signed(
     }
 }
 
-fn output_told(
+fn output_text(
     alloc: Global,
     call: &str,
     output: SigningOutput<SigningInstructions>,
@@ -135,13 +135,13 @@ fn output_told(
     let (instructions, signature) = output.into_parts();
     match call {
         "signature" => Ok(signature),
-        "instructions" => Ok(instructions_told(alloc, instructions)?),
+        "instructions" => Ok(instructions_text(alloc, instructions)?),
         _ => applied(alloc, call, instructions, request, words),
     }
 }
 
 // The headers and the parameters, a line each.
-fn instructions_told(alloc: Global, instructions: SigningInstructions) -> Mem<String> {
+fn instructions_text(alloc: Global, instructions: SigningInstructions) -> Mem<String> {
     let mut text = String::new(alloc);
     push_instructions(&mut text, instructions.try_clone()?)?;
     Ok(text)
@@ -182,13 +182,13 @@ fn applied(
         request.target = with_repeats(alloc, target)?;
     }
     match instructions.apply_to_request(request) {
-        Ok(()) => Ok(request_told(alloc, call, request)?),
+        Ok(()) => Ok(request_text(alloc, call, request)?),
         Err(error) if call == "apply" => Ok(with_refusal(alloc, &error, request)?),
         Err(error) => Err(error),
     }
 }
 
-fn request_told(alloc: Global, call: &str, request: &HttpRequest) -> Mem<String> {
+fn request_text(alloc: Global, call: &str, request: &HttpRequest) -> Mem<String> {
     if call == "apply_length" {
         return request.target.len().to_string(alloc);
     }
