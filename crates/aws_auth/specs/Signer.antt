@@ -12,7 +12,7 @@ use Rattle.smithy_core.specs.declared.request.HttpRequest.{HttpRequest}
 use Rattle.smithy_http.specs.QueryWriter.{SpellsNoTarget}
 use Rattle.smithy_http.specs.Target.{Target}
 use Rattle.sigv4.specs.Parameters.{SpellsParts}
-use Rattle.sigv4.specs.Refusal.{unfit, unfit_signed_target}
+use Rattle.sigv4.specs.Refusal.{unfit_request}
 use Rattle.sigv4.specs.Request.{Case}
 use Rattle.sigv4.specs.Settings.{settings_of}
 use Rattle.sigv4.specs.Signed.{signature_of, signed_headers, signed_target}
@@ -56,7 +56,7 @@ unfit_params region name at = option_or (unless_there region MissingSigningRegio
 -- why a request isn't signed, whose case is this for what its target spells: that is none, or the request is refused, or its target takes no more
 abbrev pub unsigned_target : (Target → Case) → Option Target → Option SigningError
 unsigned_target case None = Some InvalidUri
-unsigned_target case (Some target) = option_or (unfit (case target)) (unfit_signed_target (case target))
+unsigned_target case (Some target) = unfit_request (case target)
 
 -- the first test that fails before an override is asked: who signs, the config, and the endpoint's fields in order
 abbrev pub refusal_before_override : Identity → SigningInputs → Option SigV4SigningError

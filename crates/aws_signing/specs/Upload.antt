@@ -1,7 +1,6 @@
 -- An upload in signed chunks, in the words of `aws_chunked`: what announces it, what is signed, and the text that is sent.
 use Rattle.std.specs.Prelude.{◌≡◌, ◌⊎◌, ◌≤◌, ℕ, ◌&&◌, true, List, length, nat_lt, if◌then◌else◌, Option, Some, None, option_map, Result, Ok, Err, string_bytes}
 use Rattle.std.specs.Global.{Vec}
-use Rattle.std.specs.List.{flat_map}
 use Rattle.std.specs.Option.{option_or}
 use Rattle.smithy_core.specs.Moment.{Instant}
 use Rattle.smithy_core.specs.declared.request.HttpRequest.{HttpRequest}
@@ -14,6 +13,7 @@ use Rattle.aws_chunked.specs.Announcement.{announced_headers, announced_payload,
 use Rattle.aws_chunked.specs.Body.{Trailer}
 use Rattle.aws_chunked.specs.Due.{signed_chunked_text}
 use Rattle.aws_chunked.specs.Options.{Options}
+use Rattle.aws_chunked.specs.Made.{joined}
 use Rattle.aws_signing.specs.SigningBy.{IsSignedRequestBy, RefusesBy, SigningState, signer_case, signer_kept}
 use Rattle.aws_signing.specs.SigningFaults.{of_signing}
 use Rattle.aws_signing.specs.declared.fault.AwsSigningError.{AwsSigningError}
@@ -47,17 +47,13 @@ abbrev pub upload_case : SigningState → HttpRequest → List ℕ → ℕ → L
 upload_case by request content size trailers at =
     signer_case by (string_bytes request.method) (announced_headers (upload_options content size trailers) trailers request.headers) (announced_payload true trailers) None at
 
--- all that pieces hold, one after another
-abbrev pub joined_pieces : List (List ℕ) → List ℕ
-joined_pieces pieces = flat_map (λ piece. piece) pieces
-
 -- the request is signed, and the pieces are the text of the data and the trailers in signed chunks, the first over the request's signature, with the moment's
 -- key kept; or the upload is unfit, or memory ran out, and nothing changes; or signing refuses, and the request stays, with the moment's key kept
 abbrev pub Uploads : SigningState → HttpRequest → List ℕ → ℕ → List Trailer → Instant → SigningState → HttpRequest → Result (Vec (List ℕ)) AwsSigningError → Type 0
 Uploads old request content size trailers at new sent (Ok pieces) =
     (unfit_upload content size trailers ≡ None)
     × ((signature : List ℕ) × IsSignedRequestBy (upload_case old request content size trailers at) at (string_bytes request.target) sent signature
-    × (joined_pieces pieces.items ≡ signed_chunked_text old.holder.kept.signer at signature size content trailers))
+    × (joined pieces.items ≡ signed_chunked_text old.holder.kept.signer at signature size content trailers))
     × (string_bytes sent.method ≡ string_bytes request.method) × (sent.body ≡ request.body) × (new ≡ signer_kept old at)
 Uploads old request content size trailers at new sent (Err fault) =
     (((unfit_upload content size trailers ≡ Some fault) ⊎ (fault ≡ NoMemory)) × (new ≡ old) × (sent ≡ request))
@@ -104,6 +100,6 @@ announced_case by made at = signer_case by (string_bytes made.request.method) ma
 abbrev pub SignsUpload : (Target → Case) → Instant → Announced → Signer → List ℕ → List Trailer → Announced → Result (Vec (List ℕ)) SigningError → Type 0
 SignsUpload case at old who content trailers new (Ok pieces) =
     ((signature : List ℕ) × IsSignedRequestBy case at (string_bytes old.request.target) new.request signature
-    × (joined_pieces pieces.items ≡ signed_chunked_text who at signature old.options.chunk_size content trailers))
+    × (joined pieces.items ≡ signed_chunked_text who at signature old.options.chunk_size content trailers))
     × (string_bytes new.request.method ≡ string_bytes old.request.method) × (new.request.body ≡ old.request.body)
 SignsUpload case at old who content trailers new (Err error) = RefusesBy case at (string_bytes old.request.target) error

@@ -4,10 +4,11 @@ ghost use Rattle.smithy_core.specs.Moment.{Instant};
 ghost use Rattle.eventstream.specs.Key.{Signer as Who};
 ghost use Rattle.sigv4.specs.ChunkTold.{signs_over, unsigned_chunk_at};
 ghost use Rattle.aws_chunked.specs.SoundBody.{IsSoundBody, IsSoundBodyOf, text_left};
+ghost use Rattle.aws_chunked.specs.Made.{joined};
 ghost use Rattle.aws_chunked.specs.Due.{signed_chunked_text};
 ghost use Rattle.aws_auth.specs.ChunkSigner.{chunk_told};
 ghost use Rattle.aws_signing.specs.SigningBy.{signer_kept};
-ghost use Rattle.aws_signing.specs.Upload.{AnnouncesUpload, IsFitBody, IsFitUpload, SignsUpload, TestsUpload, Uploads, announced_case, joined_pieces, unfit_sizes};
+ghost use Rattle.aws_signing.specs.Upload.{AnnouncesUpload, IsFitBody, IsFitUpload, SignsUpload, TestsUpload, Uploads, announced_case, unfit_sizes};
 
 use crate::fault::AwsSigningError;
 use crate::signer::Signer;
@@ -102,7 +103,7 @@ impl Signer {
     ) -> Mem<Vec<Bytes>>
         requires fit { IsFitBody options content trailers }
         requires years { unsigned_chunk_at at ≡ None }
-        ensures { IfOk result (λ pieces. joined_pieces pieces.items
+        ensures { IfOk result (λ pieces. joined pieces.items
             ≡ signed_chunked_text self.now.holder.kept.signer at (string_bytes signature) options.chunk_size content trailers) }
     {
         let settings = self.settings.try_clone()?;
@@ -168,7 +169,7 @@ fn upload_of(
 // All pieces of an upload.
 fn all_pieces(alloc: Global, mut body: Upload) -> Mem<Vec<Bytes>>
     requires { IsSoundBody ⟦<CalmFrames as FrameSource>⟧ ⟦<SigV4MessageSigner<SigningSettings> as SignChunk>⟧ body }
-    ensures { IfOk result (λ pieces. joined_pieces pieces.items ≡ text_left ⟦<CalmFrames as FrameSource>⟧ ⟦<SigV4MessageSigner<SigningSettings> as SignChunk>⟧ body) }
+    ensures { IfOk result (λ pieces. joined pieces.items ≡ text_left ⟦<CalmFrames as FrameSource>⟧ ⟦<SigV4MessageSigner<SigningSettings> as SignChunk>⟧ body) }
 {
     let mut pieces = Vec::new(alloc);
     'polls: while !body.is_end_stream() {

@@ -11,13 +11,13 @@ use Rattle.smithy_core.specs.declared.outside.sink.SinkError.TheVariants as sink
 use Rattle.smithy_http.specs.Target.{target_of}
 use Rattle.env_config.specs.Sections.{FileText}
 use Rattle.sigv4.specs.Signed.{signature_of}
-use Rattle.awsign_run.specs.Chosen.{SignRefusal, SignsFor, asked_profile, signer_by}
+use Rattle.awsign_run.specs.Chosen.{SignRefusal, SignsFor, asked_profile, signer_by, who_signs}
 use Rattle.awsign_run.specs.Guess.{url_host}
 use Rattle.awsign_run.specs.Signing.{asked_refusal}
 use Rattle.awsign_run.specs.declared.status.Status.TheVariants.{CouldNotReadFile, DataFault, Done, NoMemory, OutputFault}
 use Rattle.awsign_words.specs.Words.{SignWanted}
 use Rattle.awsign_chunk.specs.Sending.{CutsShort}
-use Rattle.awsign_chunk.specs.Sent.{IsFitToSend, MakesSentFor, chunks_signer, sent_body, sent_case, sent_head, sent_size, sent_trailers, signs_chunks}
+use Rattle.awsign_chunk.specs.Sent.{IsFitToSend, MakesSentFor, sent_body, sent_case, sent_head, sent_size, sent_trailers, signs_chunks}
 use Rattle.awsign_chunk.specs.declared.sent.ChunkedUpload.{ChunkedUpload}
 use Rattle.awsign_chunk.specs.declared.status.ChunkStatus.{ChunkStatus}
 use Rattle.awsign_chunk.specs.declared.status.ChunkStatus.TheVariants.{DataTooLong, Ended, FileFault}
@@ -102,5 +102,5 @@ pub record SendsUpload (wanted : SignWanted) (n : ℕ) (signer : SignsFor) (at :
   pub taken : asked_refusal (sent_case wanted n (sent_trailers wanted bytes) signer at (target_of uri)) ≡ None
   pub writes :
       let c = sent_case wanted n (sent_trailers wanted bytes) signer at (target_of uri) in
-      let text = sent_body (signs_chunks wanted.options) (chunks_signer signer) at (signature_of c) (sent_size wanted.options) bytes (sent_trailers wanted bytes) in
+      let text = sent_body (signs_chunks wanted.options) (who_signs signer) at (signature_of c) (sent_size wanted.options) bytes (sent_trailers wanted bytes) in
       WritesSent n bytes text (sent_head wanted (target_of uri) c) status body body_now out out_now

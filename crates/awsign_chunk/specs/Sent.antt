@@ -30,7 +30,7 @@ use Rattle.awsign_text.specs.Forms.{text_in_form}
 use Rattle.awsign_words.specs.Words.{OptionValues, SignWanted, checksum_named, has, sign_wanted}
 use Rattle.awsign_words.specs.declared.words.Checksum.{Checksum}
 use Rattle.awsign_words.specs.declared.words.Checksum.TheVariants.{Crc32, Sha256}
-use Rattle.awsign_run.specs.Chosen.{SignRefusal, SignsFor, refusal_of}
+use Rattle.awsign_run.specs.Chosen.{SignRefusal, SignsFor, refusal_of, who_signs}
 use Rattle.awsign_run.specs.Signing.{IsPrinted, SignsPrinted, asked_case, asked_form, asked_refusal}
 use Rattle.awsign_run.specs.declared.signing.SignedRequest.{SignedRequest}
 use Rattle.awsign_run.specs.declared.status.Status.TheVariants.{NoMemory, Refused}
@@ -91,10 +91,6 @@ abbrev pub sent_head : SignWanted → Target → Case → List ℕ
 sent_head wanted target c =
     text_in_form (asked_form wanted) wanted.method (signed_target c wanted.url) (signed_headers c) (host_text target) (last_value wanted.options (codes "--out"))
 
--- who signs the chunks
-abbrev pub chunks_signer : SignsFor → Signer
-chunks_signer signer = record { secret = signer.key.secret; region = signer.region; name = signer.service }
-
 -- the data and the trailers in chunks of this size, signed from this signature on, or not at all
 abbrev pub sent_body : Bool → Signer → Instant → List ℕ → ℕ → List ℕ → List Trailer → List ℕ
 sent_body true who at before size bytes trailers = signed_chunked_text who at before size bytes trailers
@@ -118,7 +114,7 @@ pub record IsUploadOf (wanted : SignWanted) (n : ℕ) (signer : SignsFor) (at : 
   pub options : upload.plan.options ≡ sent_options wanted.options n (announced_trailers wanted)
   pub is_signed : upload.plan.is_signed ≡ signs_chunks wanted.options
   pub trailers : upload.plan.trailers ≡ wanted.trailers
-  pub over : chunk_told upload.running.signer ≡ signs_over (signature_of (length_case wanted n signer at uri)) (chunks_signer signer) at
+  pub over : chunk_told upload.running.signer ≡ signs_over (signature_of (length_case wanted n signer at uri)) (who_signs signer) at
   pub sum : HoldsSum upload.running.sum (sent_checksum wanted.options) []
 
 -- the upload of so many bytes by somebody at a moment; or the first reason why there is none: a trailer, the announcement, or the request; or memory ran out
@@ -171,5 +167,5 @@ pub record IsUploadBehind (asks : SignWanted) (signed : SignedRequest) (encoding
   pub options : upload.plan.options ≡ encoding
   pub is_signed : upload.plan.is_signed ≡ signs_chunks asks.options
   pub trailers : upload.plan.trailers ≡ asks.trailers
-  pub over : chunk_told upload.running.signer ≡ signs_over (string_bytes signed.signature) (chunks_signer signer) at
+  pub over : chunk_told upload.running.signer ≡ signs_over (string_bytes signed.signature) (who_signs signer) at
   pub sum : HoldsSum upload.running.sum (sent_checksum asks.options) []

@@ -6,9 +6,9 @@ ghost use Rattle.eventstream.specs.Key.{Signer as Who};
 ghost use Rattle.sigv4.specs.ChunkTold.{signs_over};
 ghost use Rattle.aws_auth.specs.ChunkSigner.{chunk_told};
 ghost use Rattle.aws_chunked.specs.Text.{chunk_text, tail_text};
-ghost use Rattle.awsign_run.specs.Chosen.{signs_for_of};
+ghost use Rattle.awsign_run.specs.Chosen.{signs_for_of, who_signs};
 ghost use Rattle.awsign_chunk.specs.Sending.{behind, last_mark, mark_of, text_from};
-ghost use Rattle.awsign_chunk.specs.Sent.{checksum_trailers, chunks_signer};
+ghost use Rattle.awsign_chunk.specs.Sent.{checksum_trailers};
 ghost use Rattle.awsign_chunk.specs.Sum.{HoldsSum};
 ghost use Rattle.awsign_words.specs.declared.words.Checksum.{Checksum as Asked};
 
@@ -33,7 +33,7 @@ pub(crate) fn chunk_signer(
     signature: String,
     at: Moment,
 ) -> Mem<ChunkSigner>
-    ensures { IfOk result (λ made. chunk_told made ≡ signs_over (string_bytes signature) (chunks_signer (signs_for_of signer)) at) }
+    ensures { IfOk result (λ made. chunk_told made ≡ signs_over (string_bytes signature) (who_signs (signs_for_of signer)) at) }
 {
     Ok(SigV4MessageSigner::new(
         signature,

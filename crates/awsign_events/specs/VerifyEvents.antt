@@ -12,7 +12,7 @@ use Rattle.env_config.specs.Sections.{FileText}
 use Rattle.awsign_words.specs.EventWords.{asked_event_form}
 use Rattle.awsign_words.specs.Words.{OptionValues}
 use Rattle.awsign_words.specs.declared.events.EventForm.{EventForm}
-use Rattle.awsign_run.specs.Chosen.{SignRefusal, SignsFor, asked_profile, refusal_of, signer_by}
+use Rattle.awsign_run.specs.Chosen.{SignRefusal, SignsFor, asked_profile, refusal_of, signer_by, who_signs}
 use Rattle.awsign_run.specs.declared.status.Status.TheVariants.{CouldNotReadFile, Done, NoMemory, OutputFault, Refused}
 use Rattle.awsign_events.specs.EventText.{is_spelled, message_texts}
 use Rattle.awsign_events.specs.declared.status.EventsStatus.{EventsStatus}
@@ -70,10 +70,6 @@ VerifiesChain form signer seed all left status before now =
 abbrev pub asked_seed : OptionValues → List ℕ
 asked_seed options = unwrap_or (last_value options (codes "--seed")) []
 
--- who has to have signed the frames
-abbrev pub frames_signer : SignsFor → Signer
-frames_signer signs = record { secret = signs.key.secret; region = signs.region; name = signs.service }
-
 -- nothing was read or written
 abbrev pub TouchesNothing : Option (List ℕ) → Option (List ℕ) → Option (List ℕ) → Option (List ℕ) → Type 0
 TouchesNothing all left before now = (left ≡ all) × (now ≡ before)
@@ -86,7 +82,7 @@ LacksSigner refusal status = ⊥
 
 -- the chain is verified as one of this signer; or there is none, and nothing was read or written
 abbrev pub VerifiesBy : OptionValues → Result SignsFor SignRefusal → Option (List ℕ) → Option (List ℕ) → EventsStatus → Option (List ℕ) → Option (List ℕ) → Type 0
-VerifiesBy options (Ok signs) all left status before now = VerifiesChain (asked_event_form options) (frames_signer signs) (asked_seed options) all left status before now
+VerifiesBy options (Ok signs) all left status before now = VerifiesChain (asked_event_form options) (who_signs signs) (asked_seed options) all left status before now
 VerifiesBy options (Err refusal) all left status before now = LacksSigner refusal status × TouchesNothing all left before now
 
 -- who signs, by options, variables and the texts of profile files; there is no host that would name the service

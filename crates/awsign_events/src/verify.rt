@@ -8,9 +8,9 @@ ghost use Rattle.chain_watch.specs.Walk.{seed_point, walk};
 ghost use Rattle.env_config.specs.Loading.{Loaded, StopsAtFile};
 ghost use Rattle.env_config.specs.Source.{file_of};
 ghost use Rattle.awsign_words.specs.EventWords.{asked_event_form};
-ghost use Rattle.awsign_run.specs.Chosen.{asked_profile, signs_for_of};
+ghost use Rattle.awsign_run.specs.Chosen.{asked_profile, signs_for_of, who_signs};
 ghost use Rattle.awsign_run.specs.Run.{asked_places};
-ghost use Rattle.awsign_events.specs.VerifyEvents.{EndsVerifying, IsNewVerifier, IsVerified, PrintsAll, PrintsUpTo, RanVerifying, ReadsVerified, VerifiesBy, VerifiesChain, VerifiesTaken, asked_seed, chain_signer, frames_signer};
+ghost use Rattle.awsign_events.specs.VerifyEvents.{EndsVerifying, IsNewVerifier, IsVerified, PrintsAll, PrintsUpTo, RanVerifying, ReadsVerified, VerifiesBy, VerifiesChain, VerifiesTaken, asked_seed, chain_signer};
 
 use crate::decode::{MOST_PIECE, write_message};
 use crate::status::EventsStatus;
@@ -93,7 +93,7 @@ fn verify_chain<S: ByteSource, K: ByteSink>(
     input: &mut S,
     out: &mut K,
 ) -> EventsStatus
-    ensures verifies { VerifiesChain (asked_event_form asked.now.options) (frames_signer (signs_for_of signer.now)) (asked_seed asked.now.options)
+    ensures verifies { VerifiesChain (asked_event_form asked.now.options) (who_signs (signs_for_of signer.now)) (asked_seed asked.now.options)
         (S.left input.old) (S.left input.new) result (K.held out.old) (K.held out.new) }
     ensures count { S.faults input.old ≤ S.faults input.new }
     ensures failed { CountsFault (result ≡ EventsStatus.Ended Status.OutputFault) (K.faults out.old) (K.faults out.new) }
@@ -120,7 +120,7 @@ fn seed_asked(options: &Env) -> &str
 impl Verifier {
     // Nothing was read.
     fn new(alloc: Global, seed: &str, signer: &Chosen) -> Mem<Verifier>
-        ensures { IfOk result (λ verifier. IsNewVerifier (frames_signer (signs_for_of signer.now)) seed.now verifier) }
+        ensures { IfOk result (λ verifier. IsNewVerifier (who_signs (signs_for_of signer.now)) seed.now verifier) }
     {
         let secret = signer.credentials.secret_access_key();
         let (region, service) = (signer.region.as_str(), signer.service.as_str());

@@ -8,6 +8,7 @@ use Rattle.env_config.specs.Sections.{FileText, sections}
 use Rattle.aws_settings.specs.Choice.{ChosenKey, ChosenSettings, Lack, choice_by, faulty, key_in, no_key, no_region, no_secret, profile_name, profile_of}
 use Rattle.sigv4.specs.declared.error.SigningError.{SigningError}
 use Rattle.awsign_words.specs.Words.{OptionValues, has}
+use Rattle.eventstream.specs.Key.{Signer}
 use Rattle.awsign_run.specs.Guess.{guessed_service}
 use Rattle.awsign_run.specs.declared.chosen.Chosen.{Chosen}
 use Rattle.awsign_run.specs.declared.fault.Fault.{Fault}
@@ -114,6 +115,10 @@ signs_for_of chosen = record {
   region = string_bytes chosen.region;
   service = string_bytes chosen.service;
 }
+
+-- who signs chunks and frames
+abbrev pub who_signs : SignsFor → Signer
+who_signs signs = record { secret = signs.key.secret; region = signs.region; name = signs.service }
 
 -- this is who signs, or why nobody does
 abbrev pub GivesSigner : Result SignsFor SignRefusal → Result Chosen Fault → Type 0

@@ -7,7 +7,7 @@ use Rattle.smithy_core.specs.Moment.{Instant}
 use Rattle.smithy_core.specs.Outside.{Gains, GainsProperPrefix}
 use Rattle.smithy_core.specs.TextPairs.{last_value}
 use Rattle.job_text.specs.Numbers.{number}
-use Rattle.env_config.specs.Files.{At, Place, Usual}
+use Rattle.env_config.specs.Files.{At, Place, or_usual}
 use Rattle.env_config.specs.Sections.{FileText}
 use Rattle.env_config.specs.Source.{file_of}
 use Rattle.env_config.specs.declared.load_fault.EnvConfigFileLoadError.{EnvConfigFileLoadError}
@@ -26,11 +26,6 @@ use Rattle.awsign_run.specs.declared.status.Status.TheVariants.{Done, BadWord, C
 abbrev pub named_place : EnvConfigFileKind → Option (List ℕ) → List Place
 named_place kind None = []
 named_place kind (Some path) = At kind path ∷ []
-
--- the default files, where none is named
-abbrev pub or_usual : List Place → List Place
-or_usual [] = Usual Config ∷ Usual Credentials ∷ []
-or_usual (place ∷ places) = place ∷ places
 
 -- the profile files: those that options name, or else the default ones
 abbrev pub asked_places : OptionValues → List Place

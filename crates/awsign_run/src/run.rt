@@ -2,11 +2,11 @@
 ghost use Rattle.std.specs.Prelude.{◌≡◌, ◌≤◌, ◌++◌, IfOk, IsErrOf, OnErr, codes, map, true, option_copied, option_map, string_bytes};
 ghost use Rattle.smithy_core.specs.Given.{Gives};
 ghost use Rattle.smithy_core.specs.Outside.{CountsFault, RoseOrStands};
-ghost use Rattle.env_config.specs.Files.{chosen_places, file_places};
+ghost use Rattle.env_config.specs.Files.{chosen_places, file_places, or_usual};
 ghost use Rattle.env_config.specs.Source.{file_of};
 ghost use Rattle.env_config.specs.Loading.{Loaded, StopsAtFile};
 ghost use Rattle.awsign_run.specs.Chosen.{asked_profile};
-ghost use Rattle.awsign_run.specs.Run.{Digests, GivesByDigest, GivesByFiles, GivesRunText, HasWritten, LoadsAsked, RanSigning, TakesAskedMoment, asked_moment, asked_places, named_place, or_usual};
+ghost use Rattle.awsign_run.specs.Run.{Digests, GivesByDigest, GivesByFiles, GivesRunText, HasWritten, LoadsAsked, RanSigning, TakesAskedMoment, asked_moment, asked_places, named_place};
 ghost use Rattle.awsign_run.specs.Signing.{FailsReading, GivesNoEnd};
 ghost use Rattle.awsign_words.specs.Words.{has, sign_wanted};
 
@@ -186,7 +186,7 @@ fn built(alloc: Global, builder: Builder) -> Mem<EnvConfigFiles>
 }
 
 // The builder with the file at a path, where there is one.
-#[tactic(auto, using(crate::proofs::FileLemmas::chosen_grows))]
+#[tactic(auto, using(env_config::proofs::FilesLemmas::chosen_grows))]
 fn with_named(
     builder: Builder,
     alloc: Global,

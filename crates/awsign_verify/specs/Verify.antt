@@ -1,5 +1,5 @@
 -- Who signed a request, as the tool prints it.
-use Rattle.std.specs.Prelude.{◌≡◌, ◌⊎◌, ℕ, if◌then◌else◌, List, [], ◌∷◌, ◌++◌, codes, Option, Some, None, unwrap_or, Result, Ok, Err, ℤ, string_bytes}
+use Rattle.std.specs.Prelude.{◌≡◌, ℕ, if◌then◌else◌, List, [], ◌∷◌, ◌++◌, codes, Option, unwrap_or, Result, Ok, Err, ℤ, string_bytes}
 use Rattle.std.specs.Fmt.{signed_decimal}
 use Rattle.std.specs.Global.{Vec}
 use Rattle.smithy_core.specs.Civil.{is_in_years}
@@ -12,6 +12,7 @@ use Rattle.smithy_core.specs.declared.request.HttpRequest.{HttpRequest}
 use Rattle.env_config.specs.Sections.{FileText}
 use Rattle.sigv4.specs.declared.settings.SignatureLocation.{SignatureLocation}
 use Rattle.sigv4.specs.declared.settings.SignatureLocation.TheVariants.{Headers, QueryParams}
+use Rattle.sigv4.specs.SecondHasher.{at_second}
 use Rattle.request_door.specs.Doors.{AnswersDoor, DoorInput}
 use Rattle.request_door.specs.declared.admitted.Admitted.{Admitted}
 use Rattle.request_door.specs.declared.fault.DoorFault.{DoorFault}
@@ -65,13 +66,9 @@ payload_words Unsigned = codes "unsigned"
 payload_words UnsignedChunks = codes "unsigned chunks"
 payload_words SignedChunks = codes "signed chunks"
 
--- the moment at the start of a second since 1970-01-01T00:00:00Z
-abbrev pub whole_second : ℤ → Instant
-whole_second secs = record { secs = secs; nanos = 0 }
-
 -- a second: its date and time (RFC 3339), or its number outside the years 0 to 9999
 unfoldable pub second_text : ℤ → List ℕ
-second_text secs = if is_in_years (whole_second secs) then formatted DateTime (whole_second secs) else signed_decimal secs
+second_text secs = if is_in_years (at_second secs) then formatted DateTime (at_second secs) else signed_decimal secs
 
 -- a line: a name, and its value
 abbrev pub named_line : List ℕ → List ℕ → List ℕ

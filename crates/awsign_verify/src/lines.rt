@@ -4,8 +4,9 @@ ghost use Rattle.std.specs.String.{string_bytes};
 ghost use Rattle.smithy_core.specs.Civil.{is_in_years};
 ghost use Rattle.smithy_core.specs.Format.{formatted};
 ghost use Rattle.smithy_core.specs.declared.format.Format.TheVariants.{DateTime};
+ghost use Rattle.sigv4.specs.SecondHasher.{at_second};
 ghost use Rattle.awsign_run.specs.Chosen.{signs_for_of};
-ghost use Rattle.awsign_verify.specs.Verify.{payload_words, place_word, second_text, named_line, verified_text, what_lines, who_lines, whole_second};
+ghost use Rattle.awsign_verify.specs.Verify.{payload_words, place_word, second_text, named_line, verified_text, what_lines, who_lines};
 
 use awsign_run::Chosen;
 use request_door::{Admitted, DoorPayload};
@@ -98,8 +99,8 @@ fn second_text(alloc: Global, secs: i128) -> Mem<String>
 // The moment at the start of a second in the years 0 to 9999.
 #[tactic(auto, using(crate::proofs::TimeLemmas::unfit_years))]
 fn moment_of_second(secs: i128) -> Option<Moment>
-    ensures some { IfSome result (λ at. (at ≡ whole_second secs) × (is_in_years (whole_second secs) ≡ true)) }
-    ensures none { IsNone result → is_in_years (whole_second secs) ≡ false }
+    ensures some { IfSome result (λ at. (at ≡ at_second secs) × (is_in_years (at_second secs) ≡ true)) }
+    ensures none { IsNone result → is_in_years (at_second secs) ≡ false }
 {
     let secs = i64::try_from(secs).ok()?;
     let at = Moment::new(secs, 0);

@@ -5,12 +5,12 @@ use Rattle.hex.specs.Hex.{encode_lower}
 use Rattle.smithy_core.specs.Civil.{is_in_years}
 use Rattle.smithy_core.specs.Moment.{Instant}
 use Rattle.smithy_core.specs.Header.{Header}
-use Rattle.smithy_core.specs.HeaderValue.{byte_array_of, instant_of}
+use Rattle.smithy_core.specs.HeaderValue.{byte_array_of}
 use Rattle.smithy_core.specs.Message.{Parts}
 use Rattle.eventstream.specs.Bind.{◌>>=◌}
 use Rattle.eventstream.specs.Frame.{frame, unframed}
 use Rattle.eventstream.specs.Key.{Signer}
-use Rattle.eventstream.specs.Link.{link_code}
+use Rattle.eventstream.specs.Link.{link_code, carried_date}
 use Rattle.eventstream.specs.Read.{read}
 use Rattle.eventstream.specs.Reading.{First, fault, begins, first_of}
 use Rattle.eventstream.specs.declared.error.ErrorKind.{ErrorKind}
@@ -26,10 +26,6 @@ carried_code h =
     if bytes_eq h.name (codes ":chunk-signature")
     then option_and_then (λ code. if length code == 32 then Some code else None) (byte_array_of h.value)
     else None
-
--- the moment that a header `:date` carries
-abbrev pub carried_date : Header → Option Instant
-carried_date h = if bytes_eq h.name (codes ":date") then instant_of h.value else None
 
 -- the signature and the moment that headers carry, which are exactly these two in this order
 abbrev pub carried : List Header → Option (List ℕ × Instant)

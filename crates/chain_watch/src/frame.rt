@@ -1,8 +1,9 @@
 ghost use Rattle.std.specs.Prelude.{◌≡◌, ◌==◌, ◌<◌, length, Ok, Some, None, if◌then◌else◌, option_map};
 ghost use Rattle.eventstream.specs.Error.{error_kind};
+ghost use Rattle.eventstream.specs.Link.{carried_date};
 ghost use Rattle.eventstream.specs.Read.{announced, read};
 ghost use Rattle.chain_watch.specs.Frame.{HoldsEvent, HoldsThis, ReadsEvent, TestsFrame, carried_parts, part_fault};
-ghost use Rattle.chain_watch.specs.Walk.{carried, carried_code, carried_date, frame_test, signed_moment};
+ghost use Rattle.chain_watch.specs.Walk.{carried, carried_code, frame_test, signed_moment};
 
 use crate::chain_fault::{ChainFault, ChainPart};
 use crate::chain_signer::ChainSigner;

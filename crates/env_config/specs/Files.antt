@@ -29,6 +29,11 @@ file_places files = map file_place files.files.items
 abbrev pub usual_if : Bool → EnvConfigFileKind → List Place
 usual_if on kind = if on then Usual kind ∷ [] else []
 
+-- these places, or those of the two default files where there are none
+abbrev pub or_usual : List Place → List Place
+or_usual [] = Usual Config ∷ Usual Credentials ∷ []
+or_usual (place ∷ places) = place ∷ places
+
 -- the files that were added
 abbrev pub added_places : Builder → List Place
 added_places builder = map file_place builder.files.items

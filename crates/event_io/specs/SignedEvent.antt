@@ -1,9 +1,8 @@
 -- Events in the signed messages of a stream (AWS Signature Version 4 for event streams): each has the frame of a message as its
 -- payload and its moment in the header `:date`, and the last has no payload.
-use Rattle.std.specs.Prelude.{◌≡◌, ◌⊎◌, ℕ, List, [], ◌∷◌, bytes_eq, codes, drop, Option, Some, None, Result, Ok, Err, if◌then◌else◌}
+use Rattle.std.specs.Prelude.{◌≡◌, ◌⊎◌, ℕ, List, [], ◌∷◌, codes, drop, Option, Some, None, Result, Ok, Err}
 use Rattle.std.specs.Option.{option_or}
 use Rattle.smithy_core.specs.Header.{Header}
-use Rattle.smithy_core.specs.HeaderValue.{instant_of}
 use Rattle.smithy_core.specs.Message.{Parts}
 use Rattle.smithy_core.specs.Moment.{Instant}
 use Rattle.eventstream.specs.Error.{error_kind}
@@ -13,17 +12,14 @@ use Rattle.eventstream.specs.declared.error.Error.{Error as Refusal}
 use Rattle.eventstream.specs.declared.error.ErrorKind.TheVariants.{NoMemory}
 use Rattle.eventstream.specs.declared.unmarshall.UnmarshalledMessage.{UnmarshalledMessage}
 use Rattle.eventstream.specs.declared.unmarshall.UnmarshalledMessage.TheVariants as made
+use Rattle.eventstream.specs.Link.{carried_date}
 use Rattle.event_io.specs.declared.signed_event.SignedEvent.{SignedEvent}
 use Rattle.event_io.specs.declared.signed_event.SignedEvent.TheVariants as signed
-
--- the moment of a header, where it is `:date` and holds one
-abbrev pub date_in : Header → Option Instant
-date_in header = if bytes_eq header.name (codes ":date") then instant_of header.value else None
 
 -- the moment of the first header `:date` that holds one
 abbrev pub signed_date : List Header → Option Instant
 signed_date [] = None
-signed_date (header ∷ headers) = option_or (date_in header) (signed_date headers)
+signed_date (header ∷ headers) = option_or (carried_date header) (signed_date headers)
 
 -- what is said of a message without such a header
 abbrev pub no_date : List ℕ

@@ -1,8 +1,9 @@
 ghost use Rattle.std.specs.Prelude.{◌≡◌, IfOk};
 ghost use Rattle.smithy_core.specs.Message.{Parts};
 ghost use Rattle.eventstream.specs.Error.{error_kind};
+ghost use Rattle.eventstream.specs.Link.{carried_date};
 ghost use Rattle.eventstream.specs.Texts.{Tells};
-ghost use Rattle.event_io.specs.SignedEvent.{IsSignedEventCopy, TakesHeld, UnwrapsHeld, date_in, dated, signed_date};
+ghost use Rattle.event_io.specs.SignedEvent.{IsSignedEventCopy, TakesHeld, UnwrapsHeld, dated, signed_date};
 
 use eventstream::{Error, UnmarshallMessage, UnmarshalledMessage, read_held_message};
 use smithy_core::{Header, HeaderValue, Mem, Message, Moment};
@@ -163,7 +164,7 @@ fn signed_date(headers: &[Header]) -> Option<Moment>
     ensures { result ≡ signed_date headers.now }
 {
     for header in headers {
-        if let Some(date) = date_in(header) {
+        if let Some(date) = carried_date(header) {
             return Some(date);
         }
     }
@@ -171,8 +172,8 @@ fn signed_date(headers: &[Header]) -> Option<Moment>
 }
 
 // The moment of a header, where it is `:date` and holds one.
-fn date_in(header: &Header) -> Option<Moment>
-    ensures { result ≡ date_in header.now }
+fn carried_date(header: &Header) -> Option<Moment>
+    ensures { result ≡ carried_date header.now }
 {
     match header.value() {
         HeaderValue::Timestamp(date) if header.name().as_str() == ":date" => Some(*date),

@@ -1,5 +1,5 @@
 -- The chain of signed messages of AWS Signature Version 4: each is signed over the signature before it.
-use Rattle.std.specs.Prelude.{ℕ, List, [], ◌∷◌, ◌++◌, codes}
+use Rattle.std.specs.Prelude.{ℕ, List, [], ◌∷◌, ◌++◌, bytes_eq, codes, Option, None, if◌then◌else◌}
 use Rattle.sha2.specs.Sha256.{sha256}
 use Rattle.hex.specs.Hex.{encode_lower}
 use Rattle.mac_core.specs.Mac.{mac}
@@ -8,6 +8,7 @@ use Rattle.smithy_core.specs.Moment.{Instant, floor_secs}
 use Rattle.smithy_core.specs.Message.{Parts}
 use Rattle.smithy_core.specs.Text.{line}
 use Rattle.smithy_core.specs.Header.{Header}
+use Rattle.smithy_core.specs.HeaderValue.{instant_of}
 use Rattle.smithy_core.specs.declared.header.HeaderValue.TheVariants.{ByteArray, Timestamp}
 use Rattle.eventstream.specs.Frame.{frame, spelling}
 use Rattle.eventstream.specs.Key.{Signer, scope, signing_key}
@@ -15,6 +16,10 @@ use Rattle.eventstream.specs.Key.{Signer, scope, signing_key}
 -- the header `:date` with a moment
 abbrev pub date_header : Instant → Header
 date_header t = record { name = codes ":date"; value = Timestamp t }
+
+-- the moment that a header `:date` carries
+abbrev pub carried_date : Header → Option Instant
+carried_date header = if bytes_eq header.name (codes ":date") then instant_of header.value else None
 
 -- the lines with which a string to sign begins: the algorithm, the stamp and the scope
 abbrev pub begun_lines : List ℕ → List ℕ → List ℕ → List ℕ

@@ -1,7 +1,6 @@
 -- Signing a request for a caller: what goes out, and why nothing does.
-use Rattle.std.specs.Prelude.{◌≡◌, ◌⊎◌, ℕ, ℤ, Bool, true, List, [], ◌∷◌, ◌++◌, codes, map, Vec, Option, Some, None, Result, Ok, Err, if◌then◌else◌}
+use Rattle.std.specs.Prelude.{◌≡◌, ◌⊎◌, ℕ, ℤ, Bool, true, List, [], ◌∷◌, ◌++◌, codes, map, Vec, Some, None, Result, Ok, Err, if◌then◌else◌}
 use Rattle.std.specs.List.{flat_map}
-use Rattle.std.specs.Option.{option_or}
 use Rattle.std.specs.declared.alloc.Global.{Global}
 use Rattle.http_uri.specs.declared.uri.Uri.{Uri}
 use Rattle.smithy_http.specs.QueryWriter.{SpellsNoTarget, SpellsTarget}
@@ -9,7 +8,7 @@ use Rattle.smithy_http.specs.Target.{Target, target_of}
 use Rattle.sigv4.specs.Instructions.{Instruction, Instructions, instruction_pair}
 use Rattle.sigv4.specs.Parameters.{AppliesTo, takes_no_more}
 use Rattle.sigv4.specs.Query.{Pair}
-use Rattle.sigv4.specs.Refusal.{unfit, unfit_signed_target}
+use Rattle.sigv4.specs.Refusal.{unfit, unfit_request}
 use Rattle.sigv4.specs.Params.{signer_of, v4_identity, v4_settings, v4_time}
 use Rattle.sigv4.specs.Request.{Case, key_id_of, token_of}
 use Rattle.sigv4.specs.RequestSigning.{IsSigned}
@@ -43,19 +42,15 @@ http_lines headers = flat_map http_line (map instruction_pair headers)
 abbrev pub outgoing : Case → List ℕ → List ℕ
 outgoing c text = if is_query_form c.settings then signed_target c text else http_lines (instructions c)
 
--- the first test that fails of a case that is signed at a moment in the years, and last that of the length of the signed target
-abbrev pub unsigned_case : Case → Option SigningError
-unsigned_case c = option_or (unfit c) (unfit_signed_target c)
-
 -- why the case of a target's text isn't signed: the text spells no target, or a test of the case fails, or memory ran out
 abbrev pub RefusesSpelled : List ℕ → (Target → Case) → SigningError → Type 0
 RefusesSpelled text case error =
-    (SpellsNoTarget text × (error ≡ InvalidUri)) ⊎ ((uri : Uri) × SpellsTarget text uri × (unsigned_case (case (target_of uri)) ≡ Some error)) ⊎ (error ≡ NoMemory)
+    (SpellsNoTarget text × (error ≡ InvalidUri)) ⊎ ((uri : Uri) × SpellsTarget text uri × (unfit_request (case (target_of uri)) ≡ Some error)) ⊎ (error ≡ NoMemory)
 
 -- what goes out of the case that a target's text spells, and the signature
 abbrev pub SignsSpelled : List ℕ → (Target → Case) → Made → Type 0
 SignsSpelled text case made =
-    (uri : Uri) × SpellsTarget text uri × (unsigned_case (case (target_of uri)) ≡ None)
+    (uri : Uri) × SpellsTarget text uri × (unfit_request (case (target_of uri)) ≡ None)
     × (made.text.items ≡ outgoing (case (target_of uri)) text) × (made.signature ≡ signature_of (case (target_of uri)))
 
 -- a case is signed, or why it isn't

@@ -7,7 +7,7 @@ use Rattle.smithy_core.specs.Moment.{Instant}
 use Rattle.smithy_core.specs.declared.identity.Identity.{Identity}
 use Rattle.smithy_core.specs.declared.request.HttpRequest.{HttpRequest}
 use Rattle.smithy_http.specs.Target.{Target}
-use Rattle.sigv4.specs.Refusal.{unfit, unfit_signed_target}
+use Rattle.sigv4.specs.Refusal.{unfit_request}
 use Rattle.sigv4.specs.Request.{Case, key_id_of, token_of}
 use Rattle.sigv4.specs.Signed.{signature_of, signed_headers, signed_target}
 use Rattle.sigv4.specs.declared.error.SigningError.{SigningError}
@@ -38,12 +38,8 @@ run_fault_for errors.MissingExpires = missing_expires
 run_fault_for (errors.MomentOutOfRange moment) = moment_out_of_range moment
 run_fault_for error = invalid_uri
 
--- the first test of a case that fails: those of the request, and then that of its signed target
-abbrev pub unsigned : Case → Option SigningError
-unsigned c = option_or (unfit c) (unfit_signed_target c)
-
 abbrev pub case_fault : Case → Option RunFault
-case_fault c = option_map run_fault_for (unsigned c)
+case_fault c = option_map run_fault_for (unfit_request c)
 
 -- the fault of a request whose case is this for what its target spells
 abbrev pub target_fault : (Target → Case) → TargetRead → Option RunFault

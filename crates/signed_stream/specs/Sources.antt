@@ -1,10 +1,10 @@
 -- The profile texts of a run: the files that words name, in the order of the words, and then the texts of the input; where there is none of both, the two
 -- default files.
-use Rattle.std.specs.Prelude.{ℕ, List, [], ◌∷◌, ◌++◌, Result, Ok, Err, Option, option_map}
+use Rattle.std.specs.Prelude.{ℕ, List, ◌++◌, Result, Ok, Err, Option, option_map}
 use Rattle.std.specs.Global.{Vec}
 use Rattle.std.specs.Option.{option_to_list}
 use Rattle.smithy_core.specs.declared.outside.disk.DiskError.{DiskError}
-use Rattle.env_config.specs.Files.{Given, Place, Usual}
+use Rattle.env_config.specs.Files.{Given, Place, or_usual}
 use Rattle.env_config.specs.Loading.{Loaded, StopsAtFile, selected_profile}
 use Rattle.env_config.specs.declared.source.EnvConfigFileKind.{EnvConfigFileKind}
 use Rattle.env_config.specs.declared.source.EnvConfigFileKind.TheVariants.{Config, Credentials}
@@ -22,11 +22,6 @@ given_place kind text = option_to_list (option_map (Given kind) text)
 -- the texts of the input, config first
 abbrev pub given_places : ProfileTexts → List Place
 given_places texts = given_place Config texts.config ++ given_place Credentials texts.credentials
-
--- the default files, where there are no others
-abbrev pub or_usual : List Place → List Place
-or_usual [] = Usual Config ∷ Usual Credentials ∷ []
-or_usual (place ∷ places) = place ∷ places
 
 -- the files that are named, and then the texts of the input, or else the default files
 abbrev pub source_places : List Place → ProfileTexts → List Place

@@ -124,7 +124,7 @@ fn files_of(alloc: Global, named: &[NamedFile<'_>], texts: ProfileTexts) -> Mem<
 }
 
 // The builder with the files that are named.
-#[tactic(auto, using(crate::proofs::SourceLemmas::chosen_grows))]
+#[tactic(auto, using(env_config::proofs::FilesLemmas::chosen_grows))]
 fn with_named(builder: Builder, alloc: Global, named: &[NamedFile<'_>]) -> Mem<Builder>
     ensures { IfOk result (λ now. chosen_places now ≡ chosen_places builder ++ map place_of named.now) }
 {
@@ -148,7 +148,7 @@ fn with_texts(builder: Builder, texts: ProfileTexts) -> Mem<Builder>
 }
 
 // The builder with a text, where there is one.
-#[tactic(auto, using(crate::proofs::SourceLemmas::chosen_grows))]
+#[tactic(auto, using(env_config::proofs::FilesLemmas::chosen_grows))]
 fn with_text(builder: Builder, kind: EnvConfigFileKind, text: Option<String>) -> Mem<Builder>
     ensures { IfOk result (λ now. chosen_places now ≡ chosen_places builder ++ given_place kind (option_map string_bytes text)) }
 {

@@ -119,6 +119,10 @@ request_refusal identity c = option_or (unsignable identity c.at) (unfit c)
 unfoldable pub unfit_signed_target : Case → Option SigningError
 unfit_signed_target c = unless (not (takes_no_more (parameters c) c.target)) InvalidUri
 
+-- the first test of a request that fails; that of its signed target is the last
+abbrev pub unfit_request : Case → Option SigningError
+unfit_request c = option_or (unfit c) (unfit_signed_target c)
+
 -- a test answers why it fails, and nothing where it passes
 abbrev pub Tests : Option SigningError → Result (Unit {0}) SigningError → Type 0
 Tests refused (Ok _) = refused ≡ None
