@@ -1,5 +1,5 @@
 mod ChunkSignerLemmas
 mod InputsLemmas
 pub mod MessageSignerLemmas
-mod SignerLemmas
+pub mod SignerLemmas
 mod PlainLemmas

@@ -1,5 +1,5 @@
 -- A request that is signed by parameters, for what its target spells.
-use Rattle.std.proofs.Common.{◌≡◌, ℕ, ◌⊎◌, true, false, inl, inr, List, Option, Some, None, refl, sym, ap, ◌∙◌}
+use Rattle.std.proofs.Common.{◌≡◌, ℕ, ◌⊎◌, inl, inr, List, Option, Some, None, refl, sym, ap, ◌∙◌}
 use Rattle.std.specs.Prelude.{Ok, Err, string_bytes}
 use Rattle.http_uri.specs.declared.uri.Uri.{Uri}
 use Rattle.smithy_core.specs.declared.identity.Identity.{Identity}
@@ -9,13 +9,12 @@ use Rattle.smithy_http.specs.Target.{Target, target_of}
 use Rattle.sigv4.specs.Body.{payload_text}
 use Rattle.sigv4.specs.EventStream.{unsignable}
 use Rattle.sigv4.specs.Instructions.{Instructions, with_instructions}
-use Rattle.sigv4.specs.Parameters.{AppliesTo, takes_no_more, target_text_with}
+use Rattle.sigv4.specs.Parameters.{AppliesTo, target_text_with}
 use Rattle.sigv4.specs.Query.{Pair}
-use Rattle.sigv4.specs.Refusal.{request_refusal, unfit, unfit_signed_target}
+use Rattle.sigv4.specs.Refusal.{request_refusal, unfit}
 use Rattle.sigv4.specs.Request.{Case, identity_of, request_case}
 use Rattle.sigv4.specs.RequestSigning.{SignsCase}
 use Rattle.sigv4.specs.Signed.{instructions, parameters, signature_of, signed_headers, signed_target}
-use Rattle.sigv4.specs.SigningParams.{params_time}
 use Rattle.sigv4.specs.declared.error.SigningError.{SigningError}
 use Rattle.sigv4.specs.declared.error.SigningError.TheVariants.{InvalidUri, NoMemory}
 use Rattle.sigv4.specs.declared.instructions.SigningInstructions.{SigningInstructions}
@@ -23,6 +22,7 @@ use Rattle.sigv4.specs.declared.output.SigningOutput.{SigningOutput}
 use Rattle.sigv4.specs.declared.request.SignableRequest.{SignableRequest}
 use Rattle.sigv4.specs.declared.signing_params.SigningParams.{SigningParams}
 use Rattle.sigv4.specs.declared.signing_params.SigningParams.TheVariants.{V4}
+use Rattle.sigv4.proofs.RefusalLemmas.{not_taken, taken}
 use Rattle.aws_auth.specs.Inputs.{chosen_text}
 use Rattle.aws_auth.specs.Signer.{IsSignedCase}
 use Rattle.aws_auth.specs.Steps.{IsSignedWith, RefusesTarget, SignsParts, SignsTarget, params_case}
@@ -34,11 +34,6 @@ pub case_made : (request : HttpRequest) (payload : Option PayloadSigningOverride
     → signable.method.now ≡ string_bytes request.method → signable.headers.now ≡ request.headers → payload_text signable.body ≡ chosen_text payload request.body
     → request_case signable params ≡ params_case request payload params (target_of signable.uri)
 case_made request payload (V4 params) signable method headers body = rw (method, headers, body) refl
-
--- who signs by parameters signs the case of a request
-pub case_able : (params : SigningParams) (signable : SignableRequest) → unsignable (identity_of params) (params_time params) ≡ None
-    → unsignable (identity_of params) (request_case signable params).at ≡ None
-case_able (V4 params) signable able = able
 
 -- a target that isn't read is refused
 pub unread : (text : List ℕ) (case : Target → Case) (error : SigningError) → (SpellsNoTarget text × (error ≡ InvalidUri)) ⊎ (error ≡ NoMemory) → RefusesTarget text case error
@@ -63,16 +58,6 @@ signed text case identity c uri output spells same able signs =
 case_target : (request : HttpRequest) (payload : Option PayloadSigningOverride) (params : SigningParams) (target : Target)
     → (params_case request payload params target).target ≡ target
 case_target request payload (V4 params) target = refl
-
--- a target takes the parameters of a case exactly where this test passes
-taken : (c : Case) (target : Target) (made : List Pair) → c.target ≡ target → made ≡ parameters c → takes_no_more made target ≡ false → unfit_signed_target c ≡ None
-unfolding unfit_signed_target
-taken c target made is given takes = rw (← given, is, takes) refl
-
-not_taken : (c : Case) (target : Target) (made : List Pair) → c.target ≡ target → made ≡ parameters c → takes_no_more made target ≡ true
-    → unfit_signed_target c ≡ Some InvalidUri
-unfolding unfit_signed_target
-not_taken c target made is given takes = rw (← given, is, takes) refl
 
 -- a target that takes no more parameters is refused
 pub retargeted : (request : HttpRequest) (payload : Option PayloadSigningOverride) (params : SigningParams) (uri : Uri) (made : List Pair) (new : List ℕ)

@@ -2,7 +2,7 @@
 use Rattle.std.proofs.Common.{◌≡◌, ℕ, ◌⊎◌, inl, inr, zero, suc, ◌+◌, ◌<◌, ◌≤◌, min, List, [], ◌∷◌, ◌++◌, length, take, take_all, drop, map, Option, None, Some, refl, ap, sym, ◌∙◌, arith}
 use Rattle.std.specs.Prelude.{option_map}
 use Rattle.std.proofs.lemmas.List.{drop_all, length-append, length-take}
-use Rattle.smithy_core.specs.FrameSource.{IsDrained, TakesFrame}
+use Rattle.smithy_core.specs.FrameSource.{TakesFrame}
 use Rattle.smithy_core.specs.declared.outside.frame_part.FramePart.{FramePart}
 use Rattle.smithy_core.specs.declared.outside.frame_part.FramePart.TheVariants as frame
 use Rattle.aws_chunked.specs.Body.{CanMake, TextLeft, Trailer, data_before, data_left, held_after, listed, parts_left, taken_after, trailers_left, with_frame}
@@ -69,28 +69,6 @@ total_trailers phase.Trailers taken trailers frames = refl
 total_trailers phase.Ended taken trailers frames = refl
 total_trailers phase.Closed taken trailers frames = refl
 
-pub parts_end : (at : Phase) (size : ℕ) (held : List ℕ) (kept : Option (List Trailer)) → (at ≡ phase.Data) ⊎ (at ≡ phase.Trailers)
-    → parts_left phase.Ended size held kept [] ≡ parts_left at size held kept []
-parts_end phase.Data size held kept on = refl
-parts_end phase.Trailers size held kept on = refl
-parts_end phase.Ended size held kept on = refl
-parts_end phase.Closed size held kept (inl is) = cc
-parts_end phase.Closed size held kept (inr is) = cc
-
-pub trailers_end : (at : Phase) (kept : Option (List Trailer)) → (at ≡ phase.Data) ⊎ (at ≡ phase.Trailers)
-    → trailers_left phase.Ended kept [] ≡ trailers_left at kept []
-trailers_end phase.Data kept on = refl
-trailers_end phase.Trailers kept on = refl
-trailers_end phase.Ended kept on = refl
-trailers_end phase.Closed kept (inl is) = cc
-trailers_end phase.Closed kept (inr is) = cc
-
-pub total_end : (at : Phase) (taken : ℕ) → counted (taken + length (data_left phase.Ended [])) ≡ counted (taken + length (data_left at []))
-total_end phase.Data taken = refl
-total_end phase.Trailers taken = refl
-total_end phase.Ended taken = refl
-total_end phase.Closed taken = refl
-
 pub frame_taken : (before_rest now_rest : List FramePart → TextLeft) (part : FramePart) (before now : Option (List FramePart))
     → TakesFrame part before now → ((frames : List FramePart) → now_rest frames ≡ before_rest (part ∷ frames))
     → option_map now_rest now ≡ option_map before_rest before
@@ -98,12 +76,6 @@ frame_taken before_rest now_rest part None now taken same = ap (option_map now_r
 frame_taken before_rest now_rest part (Some before) None taken same = absurd taken
 frame_taken before_rest now_rest part (Some before) (Some now) taken same =
     ap Some (same now) ∙ ap (λ frames. Some (before_rest frames)) (sym taken)
-
-pub frames_drained : (before_rest now_rest : List FramePart → TextLeft) (before now : Option (List FramePart))
-    → now ≡ before → IsDrained now → now_rest [] ≡ before_rest [] → option_map now_rest now ≡ option_map before_rest before
-frames_drained before_rest now_rest before None kept drained same = ap (option_map before_rest) kept
-frames_drained before_rest now_rest before (Some frames) kept drained same =
-    ap (λ left. Some (now_rest left)) drained ∙ ap Some same ∙ ap (λ left. Some (before_rest left)) (sym drained) ∙ ap (option_map before_rest) kept
 
 -- ---- what is made
 

@@ -2,7 +2,7 @@
 use Rattle.std.proofs.Common.{◌≡◌, ℕ, ◌⊎◌, inl, inr, ◌+◌, ◌<◌, ◌≤◌, min, Bool, List, [], ◌∷◌, ◌++◌, length, drop, Option, None, Some, refl, ap, sym, subst, ◌∙◌, arith}
 use Rattle.std.specs.Prelude.{Result, Ok, Err, IfSome, OnErr, option_map, string_bytes}
 use Rattle.std.specs.List.{flat_map}
-use Rattle.std.proofs.lemmas.List.{length-append, take-append-drop}
+use Rattle.std.proofs.lemmas.List.{take-append-drop}
 use Rattle.sigv4.specs.declared.chunk_signer.SignChunk as SignChunk
 use Rattle.sigv4.specs.declared.error.SigningError.{SigningError}
 use Rattle.smithy_core.specs.declared.outside.frame_source.FrameSource as FrameSource
@@ -11,7 +11,7 @@ use Rattle.aws_chunked.specs.Body.{AnswersFrame, AreTurns, CanMake, Causes, Keep
 use Rattle.aws_chunked.specs.Due.{due}
 use Rattle.aws_chunked.specs.Options.{counted, declared_length}
 use Rattle.aws_chunked.specs.Signing.{ChunkAnswers, FailsPart, MakesPart, TrailerAnswers, has_signature}
-use Rattle.aws_chunked.specs.Text.{Part, chunk, chunk_text, crlf, pieces_of_size, cut_within, head_text, last_line, tail, tail_text, trailer_line}
+use Rattle.aws_chunked.specs.Text.{Part, chunk, chunk_text, pieces_of_size, cut_within, head_text, last_line, tail, tail_text, trailer_line}
 use Rattle.aws_chunked.specs.declared.body.AwsChunkedBody.{AwsChunkedBody}
 use Rattle.aws_chunked.specs.declared.chunk_engine.ChunkEngine.{ChunkEngine}
 use Rattle.aws_chunked.specs.declared.body.ChunkNext.{ChunkNext}
@@ -27,10 +27,7 @@ use Rattle.aws_chunked.proofs.DueLemmas.{closed_due, due_kept, front_due}
 use Rattle.aws_chunked.proofs.PullLemmas.{counts_of, if_parts, if_trailers}
 use Rattle.aws_chunked.proofs.SignLemmas.{signs_error}
 use Rattle.aws_chunked.proofs.TurnLemmas.{idle_none, left_none, phase_none}
-
--- a text that ends with the end of a line has some bytes
-ends_some : (text front : List ℕ) → text ≡ front ++ crlf → 0 < length text
-ends_some text front is = let long : length text ≡ length front + 2 = ap length is ∙ length-append front crlf in omega arith
+use Rattle.aws_chunked.proofs.PiecesDueLemmas.{ends_some}
 
 -- a part has some text
 part_some : {G : Type 0} (signer : SignChunk.Ghosts G) (is_signed : Bool) (part : Part) (old : Option G) (text : List ℕ) (new : Option G)

@@ -6,7 +6,7 @@ use Rattle.std.specs.Fmt.{digit_glyph, digits, digits_onto}
 use Rattle.std.specs.Str.Parse.{digits_value_after}
 use Rattle.std.proofs.lemmas.Bool.{agree_below_at, eqb-false, eqb-true, false≢true}
 use Rattle.std.proofs.lemmas.Fmt.{digits_is_IsNumeral, hex_one_digit}
-use Rattle.std.proofs.lemmas.List.{append-nil, length-append}
+use Rattle.std.proofs.lemmas.List.{append-nil, length-append, nil_from_length}
 use Rattle.std.proofs.lemmas.Nat.{div-mul-add, mod-mul-add}
 use Rattle.aws_chunked.specs.Decoded.{CanGoOn}
 use Rattle.aws_chunked.specs.Reading.{IsEndedLength, IsLength, Led, RefusesNext, StopsWhere, is_length_digit}
@@ -14,7 +14,7 @@ use Rattle.aws_chunked.specs.Text.{length_text}
 use Rattle.aws_chunked.specs.declared.decode.fault.PartFault.{PartFault}
 use Rattle.aws_chunked.specs.declared.decode.fault.PartFault.TheVariants.{Bad}
 use Rattle.aws_chunked.proofs.DigitLemmas.{power}
-use Rattle.aws_chunked.proofs.StopLemmas.{empty_list, stops_behind}
+use Rattle.aws_chunked.proofs.StopLemmas.{stops_behind}
 
 -- what stands behind the digits stays there
 onto_behind : (k n : ℕ) (behind : List ℕ) → digits_onto k 16 true n behind ≡ digits_onto k 16 true n [] ++ behind
@@ -241,7 +241,7 @@ pub stops_at_end : (most n : ℕ) (bytes rest : List ℕ) (fault : PartFault) �
     → StopsWhere (IsLength most) (Led (IsEndedLength most)) bytes fault
 stops_at_end most n bytes rest fault low read none told =
     stops_behind (IsLength most) (Led (IsEndedLength most)) bytes (length_text n) rest fault told read (begins_length most n low)
-    (subst (RefusesNext (Led (IsEndedLength most)) (length_text n)) (sym (empty_list rest none)) (refuses_end most n))
+    (subst (RefusesNext (Led (IsEndedLength most)) (length_text n)) (sym (nil_from_length rest none)) (refuses_end most n))
 
 -- ## What no length begins with
 
@@ -271,7 +271,7 @@ pub first_stops_end : (most : ℕ) (bytes : List ℕ) (fault : PartFault) → le
     → StopsWhere (IsLength most) (Led (IsEndedLength most)) bytes fault
 first_stops_end most bytes fault none told =
     stops_behind (IsLength most) (Led (IsEndedLength most)) bytes [] bytes fault told refl (begins_any most)
-    (subst (RefusesNext (Led (IsEndedLength most)) []) (sym (empty_list bytes none)) (λ led.
+    (subst (RefusesNext (Led (IsEndedLength most)) []) (sym (nil_from_length bytes none)) (λ led.
     let found = led_text most [] led in
     omega (arith, ap length found.3, length-append (length_text found.0) found.1, found.4)))
 

@@ -19,9 +19,9 @@ mod PlaceLemmas
 mod PullLemmas
 mod ReadLemmas
 mod RunLemmas
-mod SealedLawLemmas
+pub mod SealedLawLemmas
 mod SignLemmas
-mod SignatureLemmas
+pub mod SignatureLemmas
 pub mod SoundBodyLemmas
 mod SoundLemmas
 mod StepLemmas

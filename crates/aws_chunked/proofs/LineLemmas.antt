@@ -156,11 +156,6 @@ colon_stops bytes name rest fault parted some low all ends told =
 
 -- ## Values
 
-pub a_value : (value : List ℕ) (text more : List ℕ) → All (λ byte. IsTrue (is_value_byte byte)) value → (other : List ℕ) → All (λ byte. IsTrue (is_value_byte byte)) other
-    → EndsRun is_value_byte text → value ++ text ≡ (other ++ crlf) ++ more → (value ≡ other) × (text ≡ crlf ++ more)
-a_value value text more all other each ends parted =
-    same_run is_value_byte value other text (crlf ++ more) all each ends refl (parted ∙ append_assoc other crlf more)
-
 pub value_stops : (bytes value rest : List ℕ) (m : ℕ) (fault : PartFault) → bytes ≡ value ++ rest → All (λ byte. IsTrue (is_value_byte byte)) value
     → EndsRun is_value_byte rest → (IsUtf8 value → ⊥) → IsLongestFront value m → fault ≡ Bad (length (drop m bytes)) → StopsWhere IsValuePart (Led IsValuePart) bytes fault
 value_stops bytes value rest m fault parted all ends not_text sound told =
@@ -362,16 +357,6 @@ name_text bytes name n there all front some = name_utf8 name (positive (length n
 value_all : (bytes value : List ℕ) (n : ℕ) → n ≤ length bytes → ((k : ℕ) → k < n → IsTrue (is_value_byte (slice_index bytes k))) → value ≡ take n bytes
     → All (λ byte. IsTrue (is_value_byte byte)) value
 value_all bytes value n there all front = subst (λ (x : List ℕ). All (λ byte. IsTrue (is_value_byte byte)) x) (sym front) (run_taken is_value_byte bytes n there all)
-
-pub value_found : (bytes value text rest : List ℕ) (n : ℕ) → n ≤ length bytes → ((k : ℕ) → k < n → IsTrue (is_value_byte (slice_index bytes k)))
-    → (n < length bytes → is_value_byte (slice_index bytes n) ≡ false) → value ≡ take n bytes → rest ≡ drop n bytes → text ≡ value → IsUtf8 value
-    → IsUtf8 text × IsHeaderValue text × (bytes ≡ text ++ rest) × EndsRun is_value_byte rest
-value_found bytes value text rest n there all ends front back same is = (
-  subst IsUtf8 (sym same) is,
-  subst (λ (t : List ℕ). All (λ byte. IsTrue (is_value_byte byte)) t) (sym same) (value_all bytes value n there all front),
-  sym (take-append-drop n bytes) ∙ (λ i. (sym front ∙ sym same) i ++ sym back i),
-  subst (EndsRun is_value_byte) (sym back) (run_ended is_value_byte bytes n there ends),
-)
 
 pub value_bad : (bytes value rest : List ℕ) (n m : ℕ) (fault : PartFault) → n ≤ length bytes → ((k : ℕ) → k < n → IsTrue (is_value_byte (slice_index bytes k)))
     → (n < length bytes → is_value_byte (slice_index bytes n) ≡ false) → value ≡ take n bytes → rest ≡ drop n bytes → (IsUtf8 value → ⊥) → IsLongestFront value m

@@ -23,9 +23,6 @@ empty_only [] filled nothing = refl
 empty_only ([] ∷ pieces) filled nothing = absurd (omega (arith, filled.0))
 empty_only ((byte ∷ bytes) ∷ pieces) filled nothing = absurd (omega (arith, ap length nothing))
 
-pub empty_if : (pieces : List (List ℕ)) → pieces ≡ [] → joined pieces ≡ []
-empty_if pieces nothing = ap joined nothing
-
 pub empty_told : (pieces : List (List ℕ)) (count : ℕ) → length pieces ≡ count → AreFilled pieces
     → (count ≡ 0 → joined pieces ≡ []) × (joined pieces ≡ [] → count ≡ 0)
 empty_told [] count told filled = (λ none. refl, λ nothing. sym told)

@@ -3,13 +3,13 @@ use Rattle.std.proofs.Common.{◌≡◌, ℕ, ◌⊎◌, inl, inr, ◌+◌, ◌<
 use Rattle.std.specs.Prelude.{IfSome, OnErr, Result, Ok, Err, option_map}
 use Rattle.std.proofs.lemmas.List.{length-append}
 use Rattle.smithy_core.specs.declared.outside.frame_source.FrameSource as FrameSource
-use Rattle.smithy_core.specs.FrameSource.{IsDrained, TakesFrame}
-use Rattle.smithy_core.specs.Outside.{RoseOrStands}
+use Rattle.smithy_core.specs.FrameSource.{TakesFrame}
 use Rattle.smithy_core.specs.declared.outside.frame_part.FramePart.{FramePart}
 use Rattle.smithy_core.specs.declared.outside.frame_part.FramePart.TheVariants as frame
-use Rattle.aws_chunked.specs.Body.{AreTurns, MayReadOn, HasLength, HasTrailerLengthsAlways, IsBodyClosed, IsBodyOpen, IsCompared, StaysClosed, Trailer, after_stop, data_left, idle_frames, listed, phase_after, ready_bytes, stop_answer, trailers_left, with_frame}
+use Rattle.smithy_core.proofs.OutsideLemmas.{rose_before}
+use Rattle.aws_chunked.specs.Body.{AreTurns, MayReadOn, HasLength, HasTrailerLengthsAlways, IsBodyClosed, IsBodyOpen, Trailer, after_stop, data_left, idle_frames, listed, phase_after, ready_bytes, stop_answer, trailers_left, with_frame}
 use Rattle.aws_chunked.specs.Options.{counted}
-use Rattle.aws_chunked.specs.Passing.{AreIdleInStep, AreNoneTaken, AsksSource, FitsPiece, TakesOnlyIdleFrames, IsNextPiece, MakesEmptyChunk, MakesLastLines, MayLack, OthersPass, PieceCauses, KeepsCountsUnsigned, PassesDataOn, TakesCountedFrames, AnswersStep, Piece, Steps, TakesPiece, empty_chunk, filled_before, last_lines, length_line, passed, piece_text, pieces_due, pieces_to_come, pieces_of, pieces_with, sent_after}
+use Rattle.aws_chunked.specs.Passing.{AreIdleInStep, AreNoneTaken, FitsPiece, TakesOnlyIdleFrames, IsNextPiece, MakesLastLines, MayLack, OthersPass, PieceCauses, KeepsCountsUnsigned, PassesDataOn, TakesCountedFrames, AnswersStep, Piece, Steps, TakesPiece, empty_chunk, filled_before, last_lines, length_line, passed, piece_text, pieces_due, pieces_to_come, pieces_of, pieces_with, sent_after}
 use Rattle.aws_chunked.specs.declared.arrivals.Arrivals.{Arrivals}
 use Rattle.aws_chunked.specs.declared.body.AwsChunkedBody.{AwsChunkedBody}
 use Rattle.aws_chunked.specs.declared.body.ChunkNext.{ChunkNext}
@@ -23,8 +23,8 @@ use Rattle.aws_chunked.specs.declared.piece_engine.Sent.{Sent}
 use Rattle.aws_chunked.specs.declared.piece_engine.Sent.TheVariants as sent
 use Rattle.aws_chunked.specs.declared.stop.Stop.{Stop}
 use Rattle.aws_chunked.specs.declared.stop.Stop.TheVariants as stop
-use Rattle.aws_chunked.proofs.TurnLemmas.{idle_more, idle_none, left_more, left_none, left_one, phase_data, phase_more, phase_none, rose_before}
-use Rattle.aws_chunked.proofs.PiecesDueLemmas.{chunk_left, chunk_some, data_behind, data_ignored, data_more, data_none, data_trailers, end_same, ended_none, few_turns, first_of, first_taken, idle_filled, idle_ignored, idle_trailers, ignored_left, line_left, line_some, lines_some, never_closed, next_taken, none_ended, none_few, on_some, same_drained, same_taken, some_text, trailers_same}
+use Rattle.aws_chunked.proofs.TurnLemmas.{idle_more, idle_none, left_more, left_none, left_one, phase_data, phase_more, phase_none}
+use Rattle.aws_chunked.proofs.PiecesDueLemmas.{data_behind, data_ignored, data_more, data_none, data_trailers, few_turns, first_of, first_taken, idle_filled, idle_ignored, idle_trailers, ignored_left, line_left, line_some, lines_some, never_closed, next_taken, none_few, on_some, same_taken, some_text, trailers_same}
 
 module _ {F G : Type 0} (source : FrameSource.Ghosts F) where
   -- ---- a piece is made of what was taken
@@ -78,16 +78,6 @@ module _ {F G : Type 0} (source : FrameSource.Ghosts F) where
       n : ℕ
       n = old.options.stream_length
 
-  pub chunk_made : (old : AwsChunkedBody F G) (after : PieceEngine) (bytes : List ℕ) → IsBodyOpen old → (old.came.phase ≡ phase.Data → ⊥) → old.pieces.sent ≡ sent.LengthLine
-      → MakesEmptyChunk old.options old.came old.pieces after (Ok bytes) → AnswersStep source (λ count. count ≡ 0) old (record old { pieces = after }) (Ok (next.Frame bytes))
-  chunk_made old after bytes on over was made =
-      piece_made old (record old { pieces = after }) empty_chunk bytes refl refl (λ on. on) refl
-      (λ (frames : List FramePart).
-      ap (λ (w : Sent). pieces_to_come w old.came.phase old.options.stream_length old.came.trailers frames) was
-      ∙ chunk_left old.came.phase old.options.stream_length old.came.trailers frames on over
-      ∙ sym (ap (λ (engine : PieceEngine). empty_chunk ∷ pieces_to_come engine.sent old.came.phase old.options.stream_length old.came.trailers frames) made.2))
-      made.0 chunk_some made.1
-
   lines_left : (old : AwsChunkedBody F G) (frames : List FramePart) → old.came.phase ≡ phase.Ended → old.pieces.sent ≡ sent.EmptyChunk
       → pieces_with old frames ≡ last_lines (listed old.came.trailers) ∷ []
   lines_left old frames ended was = (λ i. pieces_to_come (was i) (ended i) old.options.stream_length old.came.trailers frames)
@@ -121,29 +111,7 @@ module _ {F G : Type 0} (source : FrameSource.Ghosts F) where
       none_taken (AreTurns (Ok next.End)) old new (ap (λ (body : AwsChunkedBody F G). body.source) is) (ap (λ (body : AwsChunkedBody F G). body.came.taken) is)
       (λ on. absurd (let no : phase.Closed ≡ phase.Data = sym (ap (λ (body : AwsChunkedBody F G). body.came.phase) is) ∙ on in cc)) (omega arith)
 
-  pub over_kept : (old new : AwsChunkedBody F G) → new ≡ record old { came = record old.came { phase = phase.Closed }; chunks = record old.chunks { ready = [] } } → KeepsCountsUnsigned source old new
-  over_kept old new is =
-      none_kept old new (ap (λ (body : AwsChunkedBody F G). body.source) is)
-      (is ∙ ap (λ (body : AwsChunkedBody F G). record old { source = body.source; came = body.came; pieces = body.pieces; chunks = record old.chunks { ready = body.chunks.ready } }) (sym is))
-
-  pub over_takes : (old new : AwsChunkedBody F G) → old.came.phase ≡ phase.Closed → new ≡ record old { came = record old.came { phase = phase.Closed }; chunks = record old.chunks { ready = [] } } → TakesPiece source old new (Ok next.End)
-  over_takes old new closed is = (
-    ap (λ (body : AwsChunkedBody F G). pieces_due source body) is
-        ∙ sym (ap (λ (at : Phase). option_map (λ (frames : List FramePart). pieces_to_come old.pieces.sent at old.options.stream_length old.came.trailers frames) (source.left old.source)) closed),
-    closed,
-  )
-
-  pub over_stays : (old new : AwsChunkedBody F G) → new ≡ record old { came = record old.came { phase = phase.Closed }; chunks = record old.chunks { ready = [] } } → StaysClosed old new (Ok next.End)
-  over_stays old new is closed =
-      (refl, is ∙ (λ i. record old { came = record old.came { phase = sym closed.over i }; chunks = record old.chunks { ready = sym closed.answered i } }))
-
   -- a stop as an answer
-
-  pub stopped_takes : (old mid new : AwsChunkedBody F G) (why : Stop) → TakesPiece source old mid (stop_answer why) → new ≡ after_stop why mid
-      → TakesPiece source old new (stop_answer why)
-  stopped_takes old mid new stop.NotYet takes is = ap (λ (body : AwsChunkedBody F G). pieces_due source body) is ∙ takes
-  stopped_takes old mid new stop.OutOfTurns takes is = ap (λ (body : AwsChunkedBody F G). pieces_due source body) is ∙ takes
-  stopped_takes old mid new (stop.Fault error) takes is = tt
 
   pub stopped_cause : (old mid new : AwsChunkedBody F G) (why : Stop) → PieceCauses source old mid (stop_answer why) → new ≡ after_stop why mid
       → PieceCauses source old new (stop_answer why)
@@ -176,41 +144,16 @@ module _ {F G : Type 0} (source : FrameSource.Ghosts F) where
         goes_on = λ on. absurd (let no : phase.Closed ≡ phase.Data = on in cc);
       })
 
-  pub stopped_keeps : (old mid new : AwsChunkedBody F G) (why : Stop) → KeepsCountsUnsigned source old mid → new ≡ after_stop why mid → KeepsCountsUnsigned source old new
-  stopped_keeps old mid new why keeps is =
-      after_parts (λ (body : AwsChunkedBody F G). KeepsCountsUnsigned source old body) mid new why is keeps (record {
-        waits = keeps.waits;
-        faults = keeps.faults;
-        others = ap (λ (body : AwsChunkedBody F G). record body { came = record body.came { phase = phase.Closed }; chunks = record body.chunks { ready = [] } }) keeps.others;
-      })
-
   pub stopped_closed : (mid new : AwsChunkedBody F G) (why : Stop) → new ≡ after_stop why mid → OnErr (stop_answer why) (IsBodyClosed new)
   stopped_closed mid new stop.NotYet is = tt
   stopped_closed mid new stop.OutOfTurns is = tt
   stopped_closed mid new (stop.Fault error) is =
       record { over = ap (λ (body : AwsChunkedBody F G). body.came.phase) is; answered = ap (λ (body : AwsChunkedBody F G). ready_bytes body) is }
 
-  pub no_room : (old : AwsChunkedBody F G) (after : PieceEngine) → after ≡ old.pieces
-      → AnswersStep source (λ count. count ≡ 0) old (record old { pieces = after }) (Err fault.NoMemory)
-  no_room old after same =
-      stays old (record old { pieces = after }) (Err fault.NoMemory) (ap (λ (engine : PieceEngine). record old { pieces = engine }) same) tt tt
-
   lack_told : (old : AwsChunkedBody F G) (error : AwsChunkedBodyError) (piece : Piece) → HasLength old.came old.options (Err error) → MayLack piece old.options.stream_length → IsNextPiece source old piece
       → PieceCauses source old old (Err error)
   lack_told old error piece lacks may first =
       subst (λ (e : AwsChunkedBodyError). PieceCauses source old old (Err e)) (sym lacks.0) (refl, refl, lacks.1, piece, may, first)
-
-  pub chunk_lacks : (old : AwsChunkedBody F G) (after : PieceEngine) (error : AwsChunkedBodyError) → IsBodyOpen old → (old.came.phase ≡ phase.Data → ⊥)
-      → old.pieces.sent ≡ sent.LengthLine → MakesEmptyChunk old.options old.came old.pieces after (Err error)
-      → AnswersStep source (λ count. count ≡ 0) old (record old { pieces = after }) (Err error)
-  chunk_lacks old after error on over was made =
-      stays old (record old { pieces = after }) (Err error) (ap (λ (engine : PieceEngine). record old { pieces = engine }) made.1) tt
-      (lack_told old error empty_chunk made.0 tt
-      (on_some (pieces_with old) (source.left old.source) (λ (pieces : List Piece). (rest : List Piece) × (pieces ≡ empty_chunk ∷ rest))
-      (λ (frames : List FramePart). (
-        pieces_to_come sent.EmptyChunk old.came.phase old.options.stream_length old.came.trailers frames,
-        ap (λ (w : Sent). pieces_to_come w old.came.phase old.options.stream_length old.came.trailers frames) was ∙ chunk_left old.came.phase old.options.stream_length old.came.trailers frames on over,
-      ))))
 
   pub lines_lack : (old : AwsChunkedBody F G) (error : AwsChunkedBodyError) → old.came.phase ≡ phase.Ended → old.pieces.sent ≡ sent.EmptyChunk
       → MakesLastLines old.options old.came (Err error) → AnswersStep source (λ count. count ≡ 0) old old (Err error)
@@ -240,21 +183,6 @@ module _ {F G : Type 0} (source : FrameSource.Ghosts F) where
       by (Some frames) is =
           let last = last_lines (listed (trailers_left phase.Trailers old.came.trailers frames)) in
           lack_told old error last lack tt (subst (λ (all : Option (List FramePart)). IfSome (option_map (pieces_with old) all) (λ (pieces : List Piece). (rest : List Piece) × (pieces ≡ last ∷ rest))) (sym is) ([], due frames))
-
-  -- data may still come
-  pub asks_more : (body : AwsChunkedBody F G) → body.came.phase ≡ phase.Data → (body.pieces.sent ≡ sent.Nothing → ⊥) → AsksSource body
-  asks_more body at begun = (inl at, begun, never)
-    where
-      never : IsCompared body
-      never (inl other) = absurd (let no : phase.Data ≡ phase.Trailers = sym at ∙ other in cc)
-      never (inr other) = absurd (let no : phase.Data ≡ phase.Ended = sym at ∙ other in cc)
-
-  -- trailers came, and the data has the declared length
-  pub asks_compared : (body : AwsChunkedBody F G) → body.came.phase ≡ phase.Trailers → body.pieces.sent ≡ sent.EmptyChunk → HasLength body.came body.options (Ok tt) → AsksSource body
-  asks_compared body at was has = (inr at, begun, λ ends. has)
-    where
-      begun : body.pieces.sent ≡ sent.Nothing → ⊥
-      begun none = (let no : sent.EmptyChunk ≡ sent.Nothing = sym was ∙ none in cc)
 
   -- ---- a frame is taken
 
@@ -481,23 +409,6 @@ module _ {F G : Type 0} (source : FrameSource.Ghosts F) where
     keeps = record { waits = waits; faults = faults; others = refl };
   }
 
-  pub asked_early : (old : AwsChunkedBody F G) (from : F) → source.left from ≡ source.left old.source
-      → source.waits old.source ≤ source.waits from → source.faults old.source ≤ source.faults from → RoseOrStands (source.waits old.source) (source.waits from)
-      → IsCompared old
-      → AnswersStep source (AreIdleInStep (Ok next.NotYet)) old (record old { source = from }) (Ok next.NotYet)
-  asked_early old from left waits faults rose compared =
-      asked (λ n. n ≡ 0) old from (Ok next.NotYet) left waits faults refl (ap (option_map (pieces_with old)) left) (rose, compared)
-
-  pub asked_failing : (old : AwsChunkedBody F G) (from : F) → source.left from ≡ source.left old.source
-      → source.waits old.source ≤ source.waits from → source.faults old.source ≤ source.faults from → RoseOrStands (source.faults old.source) (source.faults from)
-      → AnswersStep source (AreIdleInStep (Err fault.SourceFault)) old (record old { source = from }) (Err fault.SourceFault)
-  asked_failing old from left waits faults rose = asked (λ n. n ≡ 0) old from (Err fault.SourceFault) left waits faults refl tt rose
-
-  pub asked_vainly : (old : AwsChunkedBody F G) (from : F) → source.left from ≡ source.left old.source
-      → source.waits old.source ≤ source.waits from → source.faults old.source ≤ source.faults from
-      → AnswersStep source (AreIdleInStep (Err fault.NoMemory)) old (record old { source = from }) (Err fault.NoMemory)
-  asked_vainly old from left waits faults = asked (λ n. n ≤ 1) old from (Err fault.NoMemory) left waits faults (omega arith) tt tt
-
   -- ---- one step after others
 
   keeps_joined : (old mid new : AwsChunkedBody F G) → KeepsCountsUnsigned source old mid → KeepsCountsUnsigned source mid new → KeepsCountsUnsigned source old new
@@ -602,45 +513,7 @@ module _ {F G : Type 0} (source : FrameSource.Ghosts F) where
   made_later count old mid new answer low idles passes =
       later (AreNoneTaken answer) (AreTurns answer) count old mid new answer idles passes (λ n none. few_turns answer count n low (none_few answer n none))
 
-  pub gives_up : (count : ℕ) (old new : AwsChunkedBody F G) → count ≡ 65536 → TakesOnlyIdleFrames source count old new → AnswersStep source (AreTurns (Ok next.OutOfTurns)) old new (Ok next.OutOfTurns)
-  gives_up count old new many idles = record {
-    takes = idles.due;
-    cause = tt;
-    turns = record { frames = idles.turns.frames; taken = idles.turns.taken; turns = idles.turns.turns ∙ many; data_count = idles.turns.data_count; goes_on = idles.turns.goes_on };
-    keeps = idles.keeps;
-  }
-
   -- ---- the source has ended
-
-  pub made_at_end : (old new : AwsChunkedBody F G) (from : F) (answer : Result ChunkNext AwsChunkedBodyError) → MayReadOn old
-      → source.left from ≡ source.left old.source → IsDrained (source.left from)
-      → source.waits old.source ≤ source.waits from → source.faults old.source ≤ source.faults from
-      → AnswersStep source (AreNoneTaken answer) (record old { source = from; came = record old.came { phase = phase.Ended } }) new answer → AnswersStep source (AreIdleInStep answer) old new answer
-  made_at_end old new from answer on left drained waits faults passes = record {
-    takes = takes_later old mid new answer due (λ ended. (let no : phase.Ended ≡ phase.Closed = ended in cc)) passes.takes;
-    cause = cause_later old mid new answer due waits faults passes.cause;
-    turns = record {
-      frames = [];
-      taken = sym left ∙ passes.turns.taken ∙ ap (λ (frames : List FramePart). option_map (λ (rest : List FramePart). frames ++ rest) (source.left new.source)) none;
-      turns = subst (AreIdleInStep answer) (sym (idle_none old.came.phase))
-          (subst (AreIdleInStep answer) (none_ended answer (idle_frames phase.Ended passes.turns.frames) passes.turns.turns)
-          (none_few answer (idle_frames phase.Ended passes.turns.frames) passes.turns.turns));
-      data_count = passes.turns.data_count ∙ ap (λ (n : ℕ). counted (old.came.taken + n)) (sym (data_none old.came.phase));
-      goes_on = λ on. absurd (let no : phase.Ended ≡ phase.Data = passes.turns.goes_on on in cc);
-    };
-    keeps = keeps_joined old mid new (record { waits = waits; faults = faults; others = refl }) passes.keeps;
-  }
-    where
-      mid : AwsChunkedBody F G
-      mid = record old { source = from; came = record old.came { phase = phase.Ended } }
-
-      none : passes.turns.frames ≡ []
-      none = ended_none passes.turns.frames (none_ended answer (idle_frames phase.Ended passes.turns.frames) passes.turns.turns)
-
-      due : pieces_due source mid ≡ pieces_due source old
-      due =
-          same_drained (pieces_with old) (pieces_with (record old { source = from; came = record old.came { phase = phase.Ended } })) (source.left old.source) (source.left from) left drained
-          (end_same old.pieces.sent old.came.phase old.options.stream_length old.came.trailers on)
 
   -- ---- what a step answered
 

@@ -4,7 +4,7 @@ use Rattle.std.specs.Prelude.{IfSome, Result, Ok, Err, option_map}
 use Rattle.std.specs.Fmt.{digits}
 use Rattle.std.specs.List.{flat_map}
 use Rattle.std.proofs.lemmas.List.{length-append}
-use Rattle.smithy_core.specs.FrameSource.{IsDrained, TakesFrame}
+use Rattle.smithy_core.specs.FrameSource.{TakesFrame}
 use Rattle.smithy_core.specs.declared.outside.frame_part.FramePart.{FramePart}
 use Rattle.smithy_core.specs.declared.outside.frame_part.FramePart.TheVariants as frame
 use Rattle.aws_chunked.specs.Body.{AreTurns, Trailer, data_before, data_left, idle_frames, listed, phase_after, trailers_left, with_frame}
@@ -23,7 +23,7 @@ use Rattle.aws_chunked.proofs.TurnLemmas.{none_idle}
 -- ---- the text of a piece
 
 -- a text that ends with the end of a line has some bytes
-ends_some : (text front : List ℕ) → text ≡ front ++ crlf → 0 < length text
+pub ends_some : (text front : List ℕ) → text ≡ front ++ crlf → 0 < length text
 ends_some text front is = let long : length text ≡ length front + 2 = ap length is ∙ length-append front crlf in omega arith
 
 pub line_some : (n : ℕ) → 0 < length (piece_text (length_line n))
@@ -53,13 +53,6 @@ line_left phase.Trailers (suc n) kept frames on = refl
 line_left phase.Ended zero kept frames on = refl
 line_left phase.Ended (suc n) kept frames on = refl
 line_left phase.Closed n kept frames on = absurd (on refl)
-
-pub chunk_left : (at : Phase) (n : ℕ) (kept : Option (List Trailer)) (frames : List FramePart) → (at ≡ phase.Closed → ⊥) → (at ≡ phase.Data → ⊥)
-    → pieces_to_come sent.LengthLine at n kept frames ≡ empty_chunk ∷ pieces_to_come sent.EmptyChunk at n kept frames
-chunk_left phase.Data n kept frames on over = absurd (over refl)
-chunk_left phase.Trailers n kept frames on over = refl
-chunk_left phase.Ended n kept frames on over = refl
-chunk_left phase.Closed n kept frames on over = absurd (on refl)
 
 filled_onto : (piece : List ℕ) (pieces : List (List ℕ)) → 0 < length piece → onto_filled piece pieces ≡ piece ∷ pieces
 filled_onto [] pieces some = absurd (omega (arith, some))
@@ -91,14 +84,6 @@ trailers_same was phase.Ended n kept trailers frames (inl is) = cc
 trailers_same was phase.Ended n kept trailers frames (inr is) = cc
 trailers_same was phase.Closed n kept trailers frames (inl is) = cc
 trailers_same was phase.Closed n kept trailers frames (inr is) = cc
-
-pub end_same : (was : Sent) (at : Phase) (n : ℕ) (kept : Option (List Trailer)) → (at ≡ phase.Data) ⊎ (at ≡ phase.Trailers)
-    → pieces_to_come was phase.Ended n kept [] ≡ pieces_to_come was at n kept []
-end_same was phase.Data n kept on = refl
-end_same was phase.Trailers n kept on = refl
-end_same was phase.Ended n kept on = refl
-end_same was phase.Closed n kept (inl is) = cc
-end_same was phase.Closed n kept (inr is) = cc
 
 -- ---- what is counted
 
@@ -146,10 +131,6 @@ data_trailers phase.Trailers trailers = refl
 data_trailers phase.Ended trailers = refl
 data_trailers phase.Closed trailers = refl
 
-pub ended_none : (frames : List FramePart) → idle_frames phase.Ended frames ≡ 0 → frames ≡ []
-ended_none [] none = refl
-ended_none (frame ∷ frames) none = absurd (omega (arith, none))
-
 pub never_closed : (at : Phase) (frames : List FramePart) → phase_after at frames ≡ phase.Closed → at ≡ phase.Closed
 never_closed phase.Data [] is = is
 never_closed phase.Data (frame.Data piece ∷ frames) is = never_closed phase.Data frames is
@@ -187,12 +168,6 @@ same_taken before now part None new taken same = ap (option_map now) taken
 same_taken before now part (Some old) None taken same = absurd taken
 same_taken before now part (Some old) (Some new) taken same = ap Some (same new) ∙ ap (λ (frames : List FramePart). Some (before frames)) (sym taken)
 
-pub same_drained : (before now : List FramePart → List Piece) (old new : Option (List FramePart)) → new ≡ old → IsDrained new → now [] ≡ before []
-    → option_map now new ≡ option_map before old
-same_drained before now old None kept drained same = ap (option_map before) kept
-same_drained before now old (Some frames) kept drained same =
-    ap (λ (left : List FramePart). Some (now left)) drained ∙ ap Some same ∙ ap (λ (left : List FramePart). Some (before left)) (sym drained) ∙ ap (option_map before) kept
-
 -- ---- how many frames have no data
 
 pub few_turns : (answer : Result ChunkNext AwsChunkedBodyError) (count n : ℕ) → count < 65536 → AreIdleInStep answer n → AreTurns answer (count + n)
@@ -216,10 +191,3 @@ none_few (Err (fault.ReportedTrailerLengthMismatch actual expected)) n none = no
 none_few (Err (fault.FailedToSign why)) n none = none
 none_few (Err fault.SourceFault) n none = none
 none_few (Err fault.NoMemory) n none = omega (arith, none)
-
-pub none_ended : (answer : Result ChunkNext AwsChunkedBodyError) (n : ℕ) → AreNoneTaken answer n → n ≡ 0
-none_ended (Ok (next.Frame bytes)) n none = none
-none_ended (Ok next.NotYet) n none = none
-none_ended (Ok next.OutOfTurns) n none = absurd none
-none_ended (Ok next.End) n none = none
-none_ended (Err error) n none = none

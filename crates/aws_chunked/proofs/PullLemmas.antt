@@ -3,12 +3,12 @@ use Rattle.std.proofs.Common.{◌≡◌, ℕ, ◌⊎◌, inl, inr, ◌+◌, ◌<
 use Rattle.std.specs.Prelude.{IfSome, Ok, Err, option_map}
 use Rattle.std.proofs.lemmas.Bool.{true≢false}
 use Rattle.seg_buf.specs.Segments.{Segments}
-use Rattle.smithy_core.specs.Outside.{RoseOrStands}
 use Rattle.smithy_core.specs.declared.outside.frame_source.FrameSource as FrameSource
-use Rattle.smithy_core.specs.FrameSource.{IsDrained, TakesFrame}
+use Rattle.smithy_core.specs.FrameSource.{TakesFrame}
 use Rattle.smithy_core.specs.declared.outside.frame_part.FramePart.{FramePart}
 use Rattle.smithy_core.specs.declared.outside.frame_part.FramePart.TheVariants as frame
-use Rattle.aws_chunked.specs.Body.{CanMake, KeepsCounts, Gathers, MayReadOn, HasEnded, IsBodyOpen, IsCompared, KeepsText, PullsFrame, TextLeft, TakesSourceFrames, TakesIdleFrames, TestsPart, Trailer, data_left, held_after, held_bytes, idle_frames, idle_in, listed, parts_left, phase_after, ready_bytes, text_to_come_with, trailers_left, with_data, with_frame}
+use Rattle.smithy_core.proofs.OutsideLemmas.{rose_before}
+use Rattle.aws_chunked.specs.Body.{CanMake, KeepsCounts, Gathers, MayReadOn, IsBodyOpen, IsCompared, KeepsText, PullsFrame, TextLeft, TakesSourceFrames, TakesIdleFrames, TestsPart, Trailer, data_left, held_after, held_bytes, idle_frames, idle_in, listed, parts_left, phase_after, ready_bytes, text_to_come_with, trailers_left, with_data, with_frame}
 use Rattle.aws_chunked.specs.Options.{counted}
 use Rattle.aws_chunked.specs.Text.{Part, cut_within, pieces_of_size, tail}
 use Rattle.aws_chunked.specs.declared.body.AwsChunkedBody.{AwsChunkedBody}
@@ -18,8 +18,8 @@ use Rattle.aws_chunked.specs.declared.stop.Stop.{Stop}
 use Rattle.aws_chunked.specs.declared.stop.Stop.TheVariants as stop
 use Rattle.aws_chunked.specs.declared.phase.Phase.{Phase}
 use Rattle.aws_chunked.specs.declared.phase.Phase.TheVariants as phase
-use Rattle.aws_chunked.proofs.BodyLemmas.{frame_taken, frames_drained, held_more, parts_data, parts_end, parts_trailers, total_data, total_end, total_trailers, trailers_data, trailers_end, trailers_more}
-use Rattle.aws_chunked.proofs.TurnLemmas.{few_idle, idle_data, idle_more, idle_none, is_open, left_more, left_none, left_one, nears_data, on_after, phase_data, phase_more, phase_none, rose_before}
+use Rattle.aws_chunked.proofs.BodyLemmas.{frame_taken, held_more, parts_data, parts_trailers, total_data, total_trailers, trailers_data, trailers_more}
+use Rattle.aws_chunked.proofs.TurnLemmas.{few_idle, idle_data, idle_more, idle_none, is_open, left_more, left_none, left_one, nears_data, on_after, phase_data, phase_more, phase_none}
 
 rest_same : (a b : TextLeft) → a.ready ≡ b.ready → a.parts ≡ b.parts → a.trailers ≡ b.trailers → a.total ≡ b.total → a ≡ b
 rest_same a b ready parts trailers total = λ i. record { ready = ready i; parts = parts i; trailers = trailers i; total = total i }
@@ -79,20 +79,6 @@ module _ {F G : Type 0} where
   tests_last body begun closed size some =
       (can_make_last body.came.phase body.options.chunk_size (held_bytes body) begun closed some, omega (arith, size), λ none. absurd (omega (arith, some, ap length none)))
 
-  -- more data may come
-  pub tests_data : (body : AwsChunkedBody F G) (made : Bool) → body.came.phase ≡ phase.Data → 1 ≤ body.options.chunk_size → body.options.chunk_size ≤ 4294967295
-      → (made ≡ true → body.options.chunk_size ≤ length (held_bytes body)) → (made ≡ false → length (held_bytes body) < body.options.chunk_size) → TestsPart body (Ok made)
-  tests_data body true at size bound long short = (
-    subst (λ (p : Phase). CanMake p body.options.chunk_size (held_bytes body)) (sym at) (omega (arith, size), long refl),
-    omega (arith, size),
-    λ none. absurd (omega (arith, size, long refl, ap length none)),
-  )
-  tests_data body false at size bound long short = (short refl, bound, inl at, λ ends. absurd (never at ends))
-    where
-      never : body.came.phase ≡ phase.Data → HasEnded body → ⊥
-      never is (inl other) = (let no : phase.Data ≡ phase.Trailers = sym is ∙ other in cc)
-      never is (inr other) = (let no : phase.Data ≡ phase.Ended = sym is ∙ other in cc)
-
   -- trailers may still come
   pub tests_more : (body : AwsChunkedBody F G) → body.came.phase ≡ phase.Trailers → 1 ≤ body.options.chunk_size → body.options.chunk_size ≤ 4294967295
       → length (held_bytes body) ≤ 0 → body.came.taken ≡ body.options.stream_length → TestsPart body (Ok false)
@@ -148,11 +134,6 @@ module _ {F G : Type 0} (source : FrameSource.Ghosts F) where
     waits = waits;
     faults = faults;
   }
-
-  turns_none : (old : AwsChunkedBody F G) (from : F) (room : Segments) → source.left from ≡ source.left old.source
-      → TakesIdleFrames source (λ count. count ≡ 0) old (record old { source = from; chunks = record old.chunks { held = room } })
-  turns_none old from room left =
-      record { frames = []; taken = sym left ∙ left_none (source.left from); turns = idle_none old.came.phase; goes_on = λ on. phase_none old.came.phase ∙ on }
 
   -- ---- a pull
 
@@ -256,62 +237,6 @@ module _ {F G : Type 0} (source : FrameSource.Ghosts F) where
         on = λ closed. (let no : phase.Trailers ≡ phase.Closed = sym at_is ∙ closed in cc);
       }
 
-  pub pulls_end : (old : AwsChunkedBody F G) (from : F) (room : Segments) → MayReadOn old
-      → source.left from ≡ source.left old.source → IsDrained (source.left from) → room.bytes ≡ held_bytes old
-      → source.waits old.source ≤ source.waits from → source.faults old.source ≤ source.faults from
-      → PullsFrame source old (record old { source = from; chunks = record old.chunks { held = room }; came = record old.came { phase = phase.Ended } }) (Ok 0)
-  pulls_end old from room on left drained bytes waits faults =
-      ([], takes, sym (idle_none old.came.phase), inr (inr (refl, refl, omega (arith, ap length bytes))))
-    where
-      new : AwsChunkedBody F G
-      new = record old { source = from; chunks = record old.chunks { held = room }; came = record old.came { phase = phase.Ended } }
-
-      same : text_to_come_with (record old { source = from; chunks = record old.chunks { held = room }; came = record old.came { phase = phase.Ended } }) [] ≡ text_to_come_with old []
-      same =
-          rest_same (text_to_come_with (record old { source = from; chunks = record old.chunks { held = room }; came = record old.came { phase = phase.Ended } }) []) (text_to_come_with old []) refl
-          (ap (λ (b : List ℕ). parts_left phase.Ended old.options.chunk_size b old.came.trailers []) bytes
-          ∙ parts_end old.came.phase old.options.chunk_size (held_bytes old) old.came.trailers on)
-          (trailers_end old.came.phase old.came.trailers on) (total_end old.came.phase old.came.taken)
-
-      takes : TakesSourceFrames source [] old (record old { source = from; chunks = record old.chunks { held = room }; came = record old.came { phase = phase.Ended } })
-      takes = record {
-        keeps = record {
-          rest = frames_drained (text_to_come_with old) (text_to_come_with (record old { source = from; chunks = record old.chunks { held = room }; came = record old.came { phase = phase.Ended } })) (source.left old.source) (source.left from) left drained same;
-          others = refl;
-          held = omega (arith, ap length bytes);
-          waits = waits;
-          faults = faults;
-        };
-        taken = sym left ∙ left_none (source.left from);
-        at = inr refl;
-        on = λ closed. cc;
-      }
-
-  pub pulls_not_yet : (old : AwsChunkedBody F G) (from : F) (room : Segments) → source.left from ≡ source.left old.source → room.bytes ≡ held_bytes old
-      → source.waits old.source ≤ source.waits from → source.faults old.source ≤ source.faults from
-      → RoseOrStands (source.waits old.source) (source.waits from) → length (held_bytes old) < old.options.chunk_size → IsCompared old
-      → PullsFrame source old (record old { source = from; chunks = record old.chunks { held = room } }) (Err stop.NotYet)
-  pulls_not_yet old from room left bytes waits faults rose short compared =
-      let keeps = keeps_same old from room left bytes waits faults in (
-        counts_of old (record old { source = from; chunks = record old.chunks { held = room } }) keeps,
-        (keeps, (rose, omega (arith, short, ap length bytes), compared)),
-        turns_none old from room left,
-      )
-
-  pub pulls_fault : (old : AwsChunkedBody F G) (from : F) (room : Segments) → source.left from ≡ source.left old.source → room.bytes ≡ held_bytes old
-      → source.waits old.source ≤ source.waits from → source.faults old.source ≤ source.faults from
-      → RoseOrStands (source.faults old.source) (source.faults from)
-      → PullsFrame source old (record old { source = from; chunks = record old.chunks { held = room } }) (Err (stop.Fault fault.SourceFault))
-  pulls_fault old from room left bytes waits faults rose =
-      (record { waits = waits; faults = faults; options = refl }, rose, turns_none old from room left)
-
-  pub pulls_no_room : (old : AwsChunkedBody F G) (from : F) (room : Segments) → source.left from ≡ source.left old.source
-      → source.waits old.source ≤ source.waits from → source.faults old.source ≤ source.faults from
-      → PullsFrame source old (record old { source = from; chunks = record old.chunks { held = room } }) (Err (stop.Fault fault.NoMemory))
-  pulls_no_room old from room left waits faults =
-      let turns = turns_none old from room left in
-      (record { waits = waits; faults = faults; options = refl }, record { frames = turns.frames; taken = turns.taken; turns = omega (arith, turns.turns); goes_on = turns.goes_on })
-
   pub pulls_no_trailers : (old : AwsChunkedBody F G) (from : F) (room : Segments) (new : AwsChunkedBody F G) (trailers : List Trailer)
       → TakesFrame (frame.Trailers trailers) (source.left old.source) (source.left from)
       → source.waits old.source ≤ source.waits from → source.faults old.source ≤ source.faults from
@@ -405,10 +330,6 @@ module _ {F G : Type 0} (source : FrameSource.Ghosts F) where
       by (inl at) on = sym at ∙ on
       by (inr ends) on = absurd (let no : phase.Ended ≡ phase.Data = sym ends ∙ on in cc)
 
-  pub gathers_part : (old now : AwsChunkedBody F G) (idle : ℕ) → Turned old now idle → idle < 65536 → TestsPart now (Ok true) → Gathers source old now (Ok tt)
-  gathers_part old now idle turned few tests =
-      (turned.takes.keeps, tests.0, tests.1, tests.2, turns_now (λ (count : ℕ). count < 65536) old now idle turned few)
-
   pub gathers_lacks : (old now : AwsChunkedBody F G) (idle : ℕ) (error : AwsChunkedBodyError) → Turned old now idle → idle < 65536 → TestsPart now (Err error)
       → Gathers source old now (Err (stop.Fault error))
   gathers_lacks old now idle error turned few tests =
@@ -432,10 +353,6 @@ module _ {F G : Type 0} (source : FrameSource.Ghosts F) where
       none_of : (bytes : List ℕ) → length bytes ≤ 0 → bytes ≡ []
       none_of [] low = refl
       none_of (byte ∷ bytes) low = absurd (omega (arith, low))
-
-  pub gathers_gives_up : (old now : AwsChunkedBody F G) (idle : ℕ) → Turned old now idle → 65536 ≤ idle → Gathers source old now (Err stop.OutOfTurns)
-  gathers_gives_up old now idle turned many =
-      (counts_of old now turned.takes.keeps, turned.takes.keeps, turns_now (λ (count : ℕ). count ≡ 65536) old now idle turned (omega (arith, many, turned.within)))
 
   pub gathers_stops : (old between now : AwsChunkedBody F G) (idle : ℕ) (why : Stop) → Turned old between idle → idle < 65536 → MayReadOn between
       → PullsFrame source between now (Err why) → Gathers source old now (Err why)

@@ -37,11 +37,11 @@ text_sealed signer t text =
     signature_from (encode_lower code) (length-encode_with lower_digits code ∙ ap (λ (n : ℕ). 2 * n) (length-mac (signing_key signer t) text))
     (AllPass-from_list_all is_lower_digit (encode_lower code) (encoded_digits code (sha256-bytes _)))
 
-chunk_sealed : (piece : List ℕ) (signer : Signer) (t : Instant) (before : List ℕ) → IsSignature (chunk_signature piece signer t before)
+pub chunk_sealed : (piece : List ℕ) (signer : Signer) (t : Instant) (before : List ℕ) → IsSignature (chunk_signature piece signer t before)
 unfolding chunk_signature
 chunk_sealed piece signer t before = text_sealed signer t _
 
-trailers_sealed : (trailers : List Trailer) (signer : Signer) (t : Instant) (before : List ℕ) → IsSignature (trailer_signature trailers signer t before)
+pub trailers_sealed : (trailers : List Trailer) (signer : Signer) (t : Instant) (before : List ℕ) → IsSignature (trailer_signature trailers signer t before)
 unfolding trailer_signature
 trailers_sealed trailers signer t before = text_sealed signer t _
 

@@ -3,7 +3,7 @@ use Rattle.std.proofs.Common.{◌≡◌, ℕ, ◌+◌, ◌-◌, ◌<◌, ◌≤�
 use Rattle.std.specs.Prelude.{All, IsTrue}
 use Rattle.std.specs.List.{list_all}
 use Rattle.std.proofs.lemmas.Bool.{and_parts, eqb-true, false≢true}
-use Rattle.std.proofs.lemmas.List.{get_or_append_left, length-append, length-replicate}
+use Rattle.std.proofs.lemmas.List.{get_or_append_left, length-append, length-replicate, nil_from_length}
 use Rattle.std.proofs.lemmas.List.Elements.{All-append, All-push, All-replicate}
 use Rattle.std.proofs.lemmas.List.Sums.{AllPass-from_list_all, list_all-from_AllPass}
 use Rattle.sigv4.specs.Signature.{is_lower_digit, is_signature}
@@ -13,7 +13,7 @@ use Rattle.aws_chunked.specs.Reading.{Led, RefusesNext, StopsWhere}
 use Rattle.aws_chunked.specs.Rests.{IsSignedBy}
 use Rattle.aws_chunked.specs.declared.decode.fault.PartFault.{PartFault}
 use Rattle.aws_chunked.specs.declared.decode.fault.PartFault.TheVariants.{Bad}
-use Rattle.aws_chunked.proofs.StopLemmas.{byte_behind, empty_list, stops_behind}
+use Rattle.aws_chunked.proofs.StopLemmas.{byte_behind, stops_behind}
 
 -- ## What a signature is
 
@@ -85,7 +85,7 @@ pub signature_ends : (bytes front rest : List ℕ) (i : ℕ) (fault : PartFault)
     → bytes ≡ front ++ rest → length rest ≡ 0 → fault ≡ Bad (length rest) → StopsWhere IsSignature (Led IsSignature) bytes fault
 signature_ends bytes front rest i fault low long are read none told =
     stops_behind IsSignature (Led IsSignature) bytes front rest fault told read (begins_signature front (omega (arith, low, long)) are)
-    (subst (RefusesNext (Led IsSignature) front) (sym (empty_list rest none)) (λ led.
+    (subst (RefusesNext (Led IsSignature) front) (sym (nil_from_length rest none)) (λ led.
     omega (arith, low, long, ap length led.3, length-append led.0 led.1, signature_long led.0 led.2)))
 
 pub signature_differs : (bytes front rest others : List ℕ) (i byte : ℕ) (fault : PartFault) → i < 64 → length front ≡ i → All (λ byte. IsTrue (is_lower_digit byte)) front

@@ -16,9 +16,6 @@ use Rattle.simdutf8.proofs.Chars.{StepsThen-IsUtf8, closed-IsUtf8, least_is, mos
 use Rattle.simdutf8.proofs.StepsLemmas.{StepsThen-append, StepsThen_parts}
 use Rattle.aws_chunked.specs.TailRests.{IsLongestFront}
 
-AreValue : List ℕ → Type 0
-AreValue more = All (λ byte. IsTrue (is_value_byte byte)) more
-
 out_of_range : (lo hi c : ℕ) → is_in_range lo hi c ≡ false → lo ≤ c → c ≤ hi → ⊥
 out_of_range lo hi c is low high = false≢true (sym is ∙ (λ i. le-leb lo c low i && le-leb c hi high i))
 
@@ -36,12 +33,6 @@ Ends x y z = (more : List ℕ) × All (λ byte. IsTrue (is_value_byte byte)) mor
 
 one_more : (b : ℕ) → 128 ≤ b → All (λ byte. IsTrue (is_value_byte byte)) (b ∷ [])
 one_more b high = All-cons (λ byte. IsTrue (is_value_byte byte)) b [] (high_value b high) (All-nil (λ byte. IsTrue (is_value_byte byte)))
-
-two_more : (b c : ℕ) → 128 ≤ b → 128 ≤ c → All (λ byte. IsTrue (is_value_byte byte)) (b ∷ c ∷ [])
-two_more b c high up = All-cons (λ byte. IsTrue (is_value_byte byte)) b (c ∷ []) (high_value b high) (one_more c up)
-
-three_more : (b c d : ℕ) → 128 ≤ b → 128 ≤ c → 128 ≤ d → All (λ byte. IsTrue (is_value_byte byte)) (b ∷ c ∷ d ∷ [])
-three_more b c d high up far = All-cons (λ byte. IsTrue (is_value_byte byte)) b (c ∷ d ∷ []) (high_value b high) (two_more c d up far)
 
 after_three : (b c d : ℕ) → (0xe0 ≤ b) × (b ≤ 0xf4) → (128 ≤ c) × (c < 192) → (128 ≤ d) × (d < 192) → Ends b c d
 unfolding Ends

@@ -1,6 +1,6 @@
 -- Where reading stops.
 use Rattle.std.proofs.Common.{◌≡◌, ℕ, ◌<◌, List, [], ◌∷◌, ◌++◌, length, take, drop, get_or, refl, ap, sym, subst, ◌∙◌, arith}
-use Rattle.std.proofs.lemmas.List.{get_or_append_left, get_or_push, length-append, length-take-le, length_push, take-append-drop}
+use Rattle.std.proofs.lemmas.List.{get_or_append_left, get_or_push, length-append, length-take-le, length_push, take-append-drop, nil_from_length}
 use Rattle.aws_chunked.specs.Decoded.{CanGoOn}
 use Rattle.aws_chunked.specs.Reading.{Led, RefusesNext, StopsWhere}
 use Rattle.aws_chunked.specs.declared.decode.fault.PartFault.{PartFault}
@@ -11,10 +11,6 @@ pub stops_behind : (IsWord Is : List ℕ → Type 0) (bytes front back : List �
     → CanGoOn IsWord front → RefusesNext Is front back → StopsWhere IsWord Is bytes fault
 stops_behind IsWord Is bytes front back fault is parted begins refuses =
     subst (StopsWhere IsWord Is bytes) (sym is) (front, back, parted, refl, begins, refuses)
-
-pub empty_list : {X : Type 0} (xs : List X) → length xs ≡ 0 → xs ≡ []
-empty_list [] none = refl
-empty_list (x ∷ xs) none = absurd (omega (arith, none))
 
 -- the byte behind the first bytes
 pub byte_behind : (front : List ℕ) (byte : ℕ) (rest : List ℕ) (i : ℕ) → length front ≡ i → get_or ((front ++ byte ∷ []) ++ rest) i 0 ≡ byte
@@ -30,7 +26,7 @@ pub expect_ends : (wanted bytes rest : List ℕ) (i : ℕ) (fault : PartFault) �
     → fault ≡ Bad (length rest) → StopsWhere (λ word. word ≡ wanted) (Led (λ word. word ≡ wanted)) bytes fault
 expect_ends wanted bytes rest i fault low read none told =
     stops_behind (λ word. word ≡ wanted) (Led (λ word. word ≡ wanted)) bytes (take i wanted) rest fault told read (begins_wanted wanted i)
-    (subst (RefusesNext (Led (λ word. word ≡ wanted)) (take i wanted)) (sym (empty_list rest none)) (λ led.
+    (subst (RefusesNext (Led (λ word. word ≡ wanted)) (take i wanted)) (sym (nil_from_length rest none)) (λ led.
     omega (arith, low, length-take-le i wanted (omega (arith, low)), ap length led.3, length-append led.0 led.1, ap length led.2)))
 
 pub expect_differs : (wanted bytes rest others : List ℕ) (i byte : ℕ) (fault : PartFault) → i < length wanted → bytes ≡ take i wanted ++ rest → rest ≡ byte ∷ others

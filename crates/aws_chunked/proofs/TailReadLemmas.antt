@@ -3,7 +3,7 @@ use Rattle.std.proofs.Common.{◌≡◌, ℕ, ◌<◌, nat_eq, Bool, true, false
 use Rattle.std.specs.Prelude.{codes}
 use Rattle.std.specs.Borrow.{Bor}
 use Rattle.std.specs.List.{AllByRecursion}
-use Rattle.std.proofs.lemmas.List.{length-map, map-append}
+use Rattle.std.proofs.lemmas.List.{length-map, map-append, nil_from_length}
 use Rattle.std.proofs.lemmas.Bool.{eqb-false, eqb-true, false≢true}
 use Rattle.smithy_core.specs.TextPairs.{lower_name}
 use Rattle.aws_chunked.specs.Body.{Trailer}
@@ -13,7 +13,6 @@ use Rattle.aws_chunked.specs.Signing.{has_signature}
 use Rattle.aws_chunked.specs.TailRests.{IsSplit, last_trailer, pair_texts}
 use Rattle.aws_chunked.proofs.RunLemmas.{same_word}
 use Rattle.aws_chunked.proofs.SignatureLemmas.{signed_some}
-use Rattle.aws_chunked.proofs.StopLemmas.{empty_list}
 use Rattle.aws_chunked.proofs.TailLemmas.{all_front}
 
 -- names that are in lower case stay
@@ -70,17 +69,8 @@ split_none true lines trailers last is split other (trailer ∷ others) (Some si
     value_of [] = []
     value_of (t ∷ ts) = t.1
 
-pub split_plain : (is_signed : Bool) (lines : List Trailer) → is_signed ≡ false → IsSplit is_signed lines lines None
-split_plain true lines is = absurd (false≢true (sym is))
-split_plain false [] is = (refl, tt)
-split_plain false (line ∷ lines) is = (sym (append-nil (line ∷ lines)), tt)
-
-pub split_empty : (is_signed : Bool) (lines : List Trailer) → length lines ≡ 0 → IsSplit is_signed lines lines None
-split_empty is_signed [] none = (refl, tt)
-split_empty is_signed (line ∷ lines) none = absurd (omega (arith, none))
-
 pub empty_rest : (rest : List ℕ) → nat_eq (length rest) 0 ≡ true → rest ≡ []
-empty_rest rest is = empty_list rest (eqb-true (length rest) 0 is)
+empty_rest rest is = nil_from_length rest (eqb-true (length rest) 0 is)
 
 pub some_rest : (rest : List ℕ) → nat_eq (length rest) 0 ≡ false → length rest ≡ 0 → ⊥
 some_rest rest is none = eqb-false (length rest) 0 is none

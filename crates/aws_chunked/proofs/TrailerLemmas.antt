@@ -1,12 +1,11 @@
 -- Trailers, and the lines of them.
 use Rattle.std.proofs.Common.{◌≡◌, ℕ, ◌+◌, Bool, true, false, cond, ◌||◌, List, [], ◌∷◌, ◌++◌, length, refl, ◌∙◌, arith}
-use Rattle.std.specs.Prelude.{◌↔◌, Option, OnOk, Result, None, Some, IsSome, IsTrue, bytes_eq, codes, is_some}
+use Rattle.std.specs.Prelude.{◌↔◌, OnOk, Result, None, Some, IsSome, IsTrue, bytes_eq, codes, is_some}
 use Rattle.std.specs.Option.{option_or}
-use Rattle.std.proofs.lemmas.Bool.{false≢true}
 use Rattle.std.proofs.lemmas.List.{length-append}
 use Rattle.smithy_core.specs.TextPairs.{first_value, inserted}
+use Rattle.sigv4.proofs.RefusalLemmas.{decides-some}
 use Rattle.aws_chunked.specs.Body.{Trailer, is_named, put_after}
-use Rattle.aws_chunked.specs.Options.{counted}
 use Rattle.aws_chunked.specs.Text.{crlf, trailer_line}
 
 pub line_length : (name value : List ℕ) → length (trailer_line (name, value)) ≡ length name + length value + 3
@@ -26,18 +25,8 @@ named_some name (trailer ∷ trailers) = by (bytes_eq trailer.0 name) (named_som
     by true same = refl
     by false same = same
 
-decides_some : (value : Option (List ℕ)) (r : Bool) → (IsTrue r ↔ IsSome value) → r ≡ is_some value
-decides_some None true told = absurd (false≢true (told.0 refl))
-decides_some None false told = refl
-decides_some (Some value) true told = refl
-decides_some (Some value) false told = told.1 refl
-
 pub found_named : (name : List ℕ) (trailers : List Trailer) (found : Bool) → (IsTrue found ↔ IsSome (first_value trailers name)) → found ≡ is_named name trailers
-found_named name trailers found told = decides_some (first_value trailers name) found told ∙ named_some name trailers
-
--- a line more
-pub counted_more : (before now line : ℕ) (rest all : ℕ) → counted (before + (line + rest)) ≡ all → now ≡ counted (before + counted line) → counted (now + rest) ≡ all
-counted_more before now line rest all is more = omega (arith, is, more)
+found_named name trailers found told = decides-some (first_value trailers name) found told ∙ named_some name trailers
 
 -- a trailer whose name came before in its frame stands behind the others; another takes the place of all of its name
 pub put_behind : {E : Type 0} (result : Result (Unit {0}) E) (before kept now : List Trailer) (name value : List ℕ) → is_named name before ≡ true

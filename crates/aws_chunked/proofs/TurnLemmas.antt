@@ -3,7 +3,6 @@ use Rattle.std.proofs.Common.{◌≡◌, ℕ, ◌⊎◌, inl, inr, suc, ◌+◌,
 use Rattle.std.specs.Prelude.{option_map}
 use Rattle.std.proofs.lemmas.Bool.{eqb-true}
 use Rattle.std.proofs.lemmas.List.{length-append}
-use Rattle.smithy_core.specs.Outside.{RoseOrStands}
 use Rattle.smithy_core.specs.FrameSource.{TakesFrame}
 use Rattle.smithy_core.specs.declared.outside.frame_part.FramePart.{FramePart}
 use Rattle.smithy_core.specs.declared.outside.frame_part.FramePart.TheVariants as frame
@@ -111,28 +110,3 @@ few_idle now idle old new (inr (inr none)) = omega (arith, none.0)
 abbrev pub still : Phase → ℕ
 still phase.Ended = 0
 still _ = 1
-
-still_most : (at : Phase) → still at ≤ 1
-still_most phase.Data = omega arith
-still_most phase.Trailers = omega arith
-still_most phase.Ended = omega arith
-still_most phase.Closed = omega arith
-
-pub goes_nearer : (at now : Phase) (idle more : ℕ) (old new : List ℕ) → (at ≡ phase.Data) ⊎ (at ≡ phase.Trailers) → idle < 65536 → length old < 4294967296
-    → CountsOrBringsBy now more old new
-    → (65536 - (idle + more)) + (8589934592 - length new) + still now < (65536 - idle) + (8589934592 - length old) + still at
-goes_nearer at now idle more old new on few short nears = by (still_is on) nears
-  where
-    still_is : (at ≡ phase.Data) ⊎ (at ≡ phase.Trailers) → still at ≡ 1
-    still_is (inl is) = ap still is
-    still_is (inr is) = ap still is
-
-    by : still at ≡ 1 → CountsOrBringsBy now more old new
-        → (65536 - (idle + more)) + (8589934592 - length new) + still now < (65536 - idle) + (8589934592 - length old) + still at
-    by one (inl idles) = omega (arith, one, idles.0, idles.1, still_most now)
-    by one (inr (inl brings)) = omega (arith, one, brings.0, brings.1, still_most now)
-    by one (inr (inr ends)) = omega (arith, one, ends.0, ends.2, ap still ends.1)
-
-pub rose_before : (old between new : ℕ) → old ≤ between → RoseOrStands between new → RoseOrStands old new
-rose_before old between new low (inl rose) = inl (omega (arith, low, rose))
-rose_before old between new low (inr stands) = inr stands

@@ -27,14 +27,11 @@ distinct_metrics_step metrics kept next at d below was is_next =
     ∙ sym (distinct_more is_metric metric_exact (take at metrics) (get_or metrics at d))
     ∙ ap (λ (xs : List BusinessMetric). distinct is_metric xs) (sym (take_more metrics at d below))
 
-bytes_exact : (xs ys : List ℕ) → bytes_eq xs ys ≡ true → xs ≡ ys
-bytes_exact xs ys same = (bytes_eq-Decides xs ys).0 same
-
 version_exact : (a b : Option (List ℕ)) → option_eq bytes_eq a b ≡ true → a ≡ b
 version_exact None None same = refl
 version_exact None (Some y) same = cc
 version_exact (Some x) None same = cc
-version_exact (Some x) (Some y) same = ap (λ text. Some text) (bytes_exact x y same)
+version_exact (Some x) (Some y) same = ap (λ text. Some text) ((bytes_eq-Decides x y).0 same)
 
 named_eq : (a b : NameVersion) → a.name ≡ b.name → a.version ≡ b.version → a ≡ b
 named_eq a b names versions =
@@ -48,7 +45,7 @@ both_true false b both = cc
 named_exact : (a b : NameVersion) → same_name_version a b ≡ true → a ≡ b
 named_exact a b same =
     let both = both_true (bytes_eq a.name b.name) (option_eq bytes_eq a.version b.version) same in
-    named_eq a b (bytes_exact a.name b.name both.0) (version_exact a.version b.version both.1)
+    named_eq a b ((bytes_eq-Decides a.name b.name).0 both.0) (version_exact a.version b.version both.1)
 
 -- no framework
 pub first_frameworks_none : first_frameworks [] ≡ []

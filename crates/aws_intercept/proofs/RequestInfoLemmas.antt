@@ -1,32 +1,25 @@
 -- The header that tells of the attempts of a request.
-use Rattle.std.proofs.Common.{◌≡◌, ℕ, true, false, List, ◌∷◌, ◌++◌, Option, Some, None, codes, refl, arith, option_map, option_to_list, append_assoc, unwrap_or}
+use Rattle.std.proofs.Common.{◌≡◌, ℕ, List, ◌∷◌, ◌++◌, Option, Some, None, codes, refl, arith, option_map, option_to_list, append_assoc, unwrap_or}
 use Rattle.std.specs.Fmt.{decimal}
 use Rattle.std.specs.List.{join_by}
 use Rattle.std.proofs.lemmas.List.{append-nil}
-use Rattle.std.proofs.lemmas.Int.{ints}
-use Rattle.smithy_core.specs.Civil.{IsInYears, is_in_years, civil_of, stamp}
+use Rattle.smithy_core.specs.Civil.{IsInYears, civil_of, stamp}
 use Rattle.smithy_core.specs.CivilText.{stamp_of}
 use Rattle.smithy_core.specs.Moment.{Instant}
 use Rattle.smithy_core.specs.declared.client_config.RetryConfig.{RetryConfig}
+use Rattle.smithy_core.proofs.YearLemmas.{years_in, years_out}
 use Rattle.aws_intercept.specs.declared.bag.ConfigBag.{ConfigBag}
 use Rattle.aws_intercept.specs.RequestInfo.{info_text, max_end, stamped, ttl, ttl_front}
-
--- whether a moment lies in the years
-years_test : (t : Instant) → IsInYears t → is_in_years t ≡ true
-years_test t years = grind (arith, ints)
-
-years_untest : (t : Instant) → (IsInYears t → ⊥) → is_in_years t ≡ false
-years_untest t never = grind (arith, ints)
 
 -- a moment in the years has its stamp
 pub stamped_in_years : (t : Instant) → IsInYears t → stamped t ≡ Some (stamp_of (civil_of t))
 unfolding stamped stamp
-stamped_in_years t years = rw (years_test t years) refl
+stamped_in_years t years = rw (years_in t years) refl
 
 -- another moment has none
 pub never_stamped : (t : Instant) → (IsInYears t → ⊥) → stamped t ≡ None
 unfolding stamped
-never_stamped t never = rw (years_untest t never) refl
+never_stamped t never = rw (years_out t never) refl
 
 info_by : (attempt : List ℕ) (ttl : Option (List ℕ)) (retry : Option RetryConfig)
     → join_by (λ part. part) (codes "; ") (option_to_list (option_map (λ text. codes "ttl=" ++ text) ttl)

@@ -1,31 +1,29 @@
 -- A request that is signed by a signer, for what its target spells.
-use Rattle.std.proofs.Common.{◌≡◌, ℕ, ◌⊎◌, true, false, inl, inr, List, [], ◌∷◌, Option, Some, None, refl, sym, ap, ◌∙◌, subst}
+use Rattle.std.proofs.Common.{◌≡◌, ℕ, true, false, inl, inr, List, [], ◌∷◌, Option, Some, None, refl, ap, ◌∙◌, subst}
 use Rattle.std.specs.Prelude.{Ok, Err, Result, string_bytes, if◌then◌else◌}
 use Rattle.http_uri.specs.declared.uri.Uri.{Uri}
 use Rattle.smithy_core.specs.Civil.{is_in_years}
-use Rattle.smithy_core.specs.Identity.{IsCredentials, IsSameIdentity}
+use Rattle.smithy_core.specs.Identity.{IsSameIdentity}
 use Rattle.smithy_core.specs.Moment.{Instant}
 use Rattle.smithy_core.specs.declared.identity.Identity.{Identity}
 use Rattle.smithy_core.specs.declared.identity.Identity.TheVariants.{Credentials, Token}
 use Rattle.smithy_core.specs.declared.request.HttpRequest.{HttpRequest}
-use Rattle.smithy_http.specs.QueryWriter.{SpellsNoTarget, SpellsTarget}
+use Rattle.smithy_http.specs.QueryWriter.{SpellsTarget}
 use Rattle.smithy_http.specs.Target.{Target, target_of}
 use Rattle.sigv4.specs.Body.{payload_text}
 use Rattle.sigv4.specs.ChunkTold.{unsigned_chunk_at}
 use Rattle.sigv4.specs.EventStream.{unsignable}
 use Rattle.sigv4.specs.Instructions.{Instructions, with_instructions}
-use Rattle.sigv4.specs.Parameters.{AppliesParams, AppliesTo, IsUntargeted, takes_no_more, target_text_with}
+use Rattle.sigv4.specs.Parameters.{AppliesParams, takes_no_more, target_text_with}
 use Rattle.sigv4.specs.KeptKey.{Kept, kept_at}
 use Rattle.sigv4.specs.Params.{signer_of, v4_identity, v4_settings, v4_time}
 use Rattle.sigv4.specs.Query.{Pair}
-use Rattle.sigv4.specs.Refusal.{request_refusal, unfit, unfit_signed_target}
-use Rattle.sigv4.specs.Request.{Case, identity_of, key_id_of, request_case, token_of}
-use Rattle.sigv4.specs.RequestSigning.{IsSigned, SignsCase}
+use Rattle.sigv4.specs.Refusal.{unfit}
+use Rattle.sigv4.specs.Request.{Case, key_id_of, request_case, token_of}
+use Rattle.sigv4.specs.RequestSigning.{SignsCase}
 use Rattle.sigv4.specs.Settings.{settings_of}
 use Rattle.sigv4.specs.Signed.{instructions, parameters, signature_of, signed_headers, signed_target}
-use Rattle.sigv4.specs.SigningParams.{params_time}
 use Rattle.sigv4.specs.declared.error.SigningError.{SigningError}
-use Rattle.sigv4.specs.declared.error.SigningError.TheVariants.{InvalidUri, NoMemory}
 use Rattle.sigv4.specs.declared.instructions.SigningInstructions.{SigningInstructions}
 use Rattle.sigv4.specs.declared.output.SigningOutput.{SigningOutput}
 use Rattle.sigv4.specs.declared.params.SigningParams.{SigningParams as V4Params}
@@ -34,8 +32,9 @@ use Rattle.sigv4.specs.declared.settings.SigningSettings.{SigningSettings}
 use Rattle.sigv4.specs.declared.signing_params.SigningParams.{SigningParams}
 use Rattle.sigv4.specs.declared.signing_params.SigningParams.TheVariants.{V4}
 use Rattle.sigv4.proofs.KeptKeyLemmas.{kept_signer}
-use Rattle.aws_auth.specs.Signer.{unsigned_target}
+use Rattle.sigv4.proofs.RefusalLemmas.{not_taken, taken}
 use Rattle.aws_auth.specs.Steps.{RefusesTarget}
+use Rattle.aws_auth.proofs.SignerLemmas.{refused}
 use Rattle.presign_check.proofs.SignatureLemmas.{one_target, spelled_once}
 use Rattle.aws_signing.specs.KeyHolder.{HeldKey, IsHeldBy, key_kept}
 use Rattle.aws_signing.specs.declared.fault.AwsSigningError.{AwsSigningError}
@@ -47,21 +46,6 @@ pub text_case_made : (request : HttpRequest) (payload : Option (List ℕ)) (para
     → request_case signable params ≡ text_case request payload params (target_of signable.uri)
 text_case_made request payload (V4 params) signable method headers body = rw (method, headers, body) refl
 
--- who signs by parameters signs the case of a request
-pub text_case_able : (params : SigningParams) (signable : SignableRequest) → unsignable (identity_of params) (params_time params) ≡ None
-    → unsignable (identity_of params) (request_case signable params).at ≡ None
-text_case_able (V4 params) signable able = able
-
--- a target takes the parameters of a case exactly where this test passes
-fits : (c : Case) (target : Target) (made : List Pair) → c.target ≡ target → made ≡ parameters c → takes_no_more made target ≡ false → unfit_signed_target c ≡ None
-unfolding unfit_signed_target
-fits c target made is given takes = rw (← given, is, takes) refl
-
-over : (c : Case) (target : Target) (made : List Pair) → c.target ≡ target → made ≡ parameters c → takes_no_more made target ≡ true
-    → unfit_signed_target c ≡ Some InvalidUri
-unfolding unfit_signed_target
-over c target made is given takes = rw (← given, is, takes) refl
-
 module _ (case : Target → Case) (aimed : (target : Target) → (case target).target ≡ target) where
   -- a target that takes no more parameters is refused
   pub not_put_in : (text new : List ℕ) (uri : Uri) (made : List Pair) (error : SigningError) → SpellsTarget text uri → unfit (case (target_of uri)) ≡ None
@@ -70,7 +54,7 @@ module _ (case : Target → Case) (aimed : (target : Target) → (case target).t
   not_put_in text new uri made error spells fit is (inl (inr other, same)) =
       let one = one_target text other.0 uri other.1.0 spells in
       let takes : takes_no_more made (target_of uri) ≡ true = rw (← one) other.2 in
-      let refusal = over (case (target_of uri)) (target_of uri) made (aimed (target_of uri)) is takes in
+      let refusal = not_taken (case (target_of uri)) (target_of uri) made (aimed (target_of uri)) is takes in
       inl (Some (target_of uri), (uri, spells, refl), rw (fit, refusal, same) refl)
   not_put_in text new uri made error spells fit is (inr memory) = inr memory
 
@@ -85,7 +69,7 @@ module _ (case : Target → Case) (aimed : (target : Target) → (case target).t
   put_in at old new uri made signature years headed spells fit headers_are params_are signature_is headers (other, spelled, applies) =
       let one = one_target (string_bytes old.target) other uri spelled.0 spells in
       let takes : takes_no_more made.params (target_of uri) ≡ false = rw (← one) applies.0 in
-      let passed = fits (case (target_of uri)) (target_of uri) made.params (aimed (target_of uri)) params_are takes in
+      let passed = taken (case (target_of uri)) (target_of uri) made.params (aimed (target_of uri)) params_are takes in
       let text : string_bytes new.target ≡ target_text_with made.params (target_of uri) (string_bytes old.target) = rw (← one) applies.1 in record {
         target = target_of uri;
         spelled = (uri, spells, refl);
@@ -97,20 +81,6 @@ module _ (case : Target → Case) (aimed : (target : Target) → (case target).t
       }
 
 -- ## By a signer
-
--- a target that isn't read is refused
-pub unread : (text : List ℕ) (case : Target → Case) (error : SigningError) → (SpellsNoTarget text × (error ≡ InvalidUri)) ⊎ (error ≡ NoMemory) → RefusesTarget text case error
-unread text case error (inl none) = inl (None, none.0, ap Some (sym none.1))
-unread text case error (inr is) = inr is
-
--- what signing a case refuses for who signs, when and the request
-refused : (text : List ℕ) (case : Target → Case) (identity : Identity) (c : Case) (uri : Uri) (error : SigningError) → SpellsTarget text uri
-    → c ≡ case (target_of uri) → unsignable identity c.at ≡ None → (request_refusal identity c ≡ Some error) ⊎ (error ≡ NoMemory) → RefusesTarget text case error
-refused text case identity c uri error spells same able (inl is) =
-    let refusal : unfit c ≡ Some error = rw able at is in
-    let unfit_case : unfit (case (target_of uri)) ≡ Some error = rw (← same) refusal in
-    inl (Some (target_of uri), (uri, spells, refl), rw unfit_case refl)
-refused text case identity c uri error spells same able (inr is) = inr is
 
 -- a copy of credentials is credentials with the same secret
 pub same_holder : (identity copy : Identity) (region region' name name' : List ℕ) (kept kept' : Kept) → IsHeldBy identity region name kept.signer
@@ -127,11 +97,6 @@ holder_stays held at =
     elim (is_in_years at) as (λ b. let kept = if b then record held { kept = kept_at held.kept at } else held in
     (kept.key_id ≡ held.key_id) × (kept.token ≡ held.token) × (kept.kept.signer ≡ held.kept.signer))
     [ true ↦ (refl, refl, kept_signer held.kept at) | false ↦ (refl, refl, refl) ]
-
--- credentials sign at a moment in the years 0 to 9999
-pub able_at : (identity : Identity) (at : Instant) → IsCredentials identity → unsigned_chunk_at at ≡ None → unsignable identity at ≡ None
-able_at (Credentials credentials) at is years = years
-able_at (Token token) at is years = absurd is
 
 -- the case by the parameters of a signer is the signer's own
 pub case_by : (by : SigningState) (request : HttpRequest) (payload : Option (List ℕ)) (seconds : Option ℕ) (at : Instant) (params : V4Params SigningSettings)

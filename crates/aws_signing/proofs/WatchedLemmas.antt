@@ -4,19 +4,18 @@ use Rattle.std.proofs.Math.Seq.{drop-cons}
 use Rattle.std.proofs.lemmas.List.{at_drop_all}
 use Rattle.std.proofs.lemmas.List.Concat.{flat_map-cons}
 use Rattle.std.specs.List.{flat_map}
-use Rattle.std.specs.Prelude.{◌^◌}
 use Rattle.smithy_core.specs.Message.{Parts}
 use Rattle.eventstream.specs.Key.{Signer}
 use Rattle.chain_watch.specs.Calls.{EndsChain}
-use Rattle.chain_watch.specs.Walk.{Point, Walk, chain_events, closed, failed, seed_point, stays, unclosed, walk, walk_frames, walk_onto, walk_outcome, walk_within}
-use Rattle.chain_watch.specs.Watch.{AnswersState, DoesNothing, EndsWatch, Feeds, FeedsAt, FeedsPiece, HandsOut, Watching, new_watch, state, unwalked}
+use Rattle.chain_watch.specs.Walk.{Point, Walk, chain_events, closed, failed, seed_point, unclosed, walk, walk_frames, walk_onto, walk_outcome, walk_within}
+use Rattle.chain_watch.specs.Watch.{AnswersState, FeedsAt, FeedsPiece, Watching, new_watch, state, unwalked}
 use Rattle.chain_watch.specs.declared.chain_fault.ChainFault.{ChainFault}
 use Rattle.chain_watch.specs.declared.chain_fault.ChainFault.TheVariants.{NoMemory}
 use Rattle.chain_watch.specs.declared.watch.Watched.{Watched}
 use Rattle.chain_watch.specs.declared.watch.Watched.TheVariants.{Open}
-use Rattle.chain_watch.proofs.CallLemmas.{check_ends}
+use Rattle.chain_watch.proofs.CallLemmas.{check_ends, goes_on}
 use Rattle.chain_watch.proofs.FrameLemmas.{fault_in}
-use Rattle.chain_watch.proofs.WalkLemmas.{starts, walk_joined}
+use Rattle.chain_watch.proofs.WalkLemmas.{starts}
 use Rattle.aws_signing.specs.SigningFaults.{of_chain}
 use Rattle.aws_signing.specs.Watched.{ChecksEvents, EndsWatched, FeedsWatched, IsFedSoFar}
 use Rattle.aws_signing.specs.declared.fault.AwsSigningError.{AwsSigningError}
@@ -31,16 +30,6 @@ fed_nothing signer seed all = record {
   watched = Open;
   feeds = record { fed = refl; signer = refl; handed = record { given = []; gained = refl; split = refl }; answer = inl (refl, refl) };
 }
-
--- a walk after events, and then on from the point reached
-goes_on : (signer : Signer) (at kept : Point) (first second : List ℕ) (given : List Parts) → walk signer at first ≡ walk_onto given (walk signer kept [])
-    → walk signer at (first ++ second) ≡ walk_onto given (walk signer kept second)
-goes_on signer at kept first second given walked =
-    let left = walk signer kept [] in
-    walk_joined signer at first second
-    ∙ ap (λ (reached : Walk). walk_onto reached.events (walk signer reached.at second)) walked
-    ∙ ap (λ (events : List Parts). record { events = events; at = (walk signer left.at second).at }) (append_assoc given left.events (walk signer left.at second).events)
-    ∙ ap (walk_onto given) (sym (walk_joined signer kept [] second))
 
 -- two pieces, one after the other, are taken as one
 pub fed_on : (old between new : Watching) (first second : List ℕ) (events gained all : List Parts) (before answer : Result Watched ChainFault)

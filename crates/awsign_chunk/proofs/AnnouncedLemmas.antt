@@ -58,9 +58,6 @@ digest_of_bytes : (m : List ℕ) → AreBytes (sha256 m)
 unfolding sha256
 digest_of_bytes m = words_bytes _ 8
 
-symbols : List ℕ
-symbols = standard.encode_table
-
 byte_fits : (b : ℕ) → 32 ≤ b → b ≤ 126 → is_value_byte b ≡ true
 byte_fits b low high = grind (arith, nat_tests)
 

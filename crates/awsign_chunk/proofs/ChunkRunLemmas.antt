@@ -15,7 +15,7 @@ use Rattle.sigv4.specs.Request.{Case}
 use Rattle.sigv4.specs.Signed.{signature_of}
 use Rattle.aws_chunked.specs.Body.{Trailer}
 use Rattle.aws_chunked.specs.Options.{Options}
-use Rattle.awsign_run.specs.Chosen.{SignsFor}
+use Rattle.awsign_run.specs.Chosen.{SignsFor, who_signs}
 use Rattle.awsign_run.specs.Run.{HasWritten, LoadsAsked}
 use Rattle.awsign_run.specs.Signing.{asked_refusal}
 use Rattle.awsign_run.specs.Status.{load_status}
@@ -24,7 +24,7 @@ use Rattle.awsign_run.specs.declared.status.Status.TheVariants.{Done, BadWord, C
 use Rattle.awsign_words.specs.Words.{SignWanted}
 use Rattle.awsign_chunk.specs.ChunkRun.{IsDataStatus, IsFileStatus, SendsUpload, WritesSent, most_data, unread_status}
 use Rattle.awsign_chunk.specs.Sending.{CutsShort, SendsBody}
-use Rattle.awsign_chunk.specs.Sent.{IsUploadOf, chunks_signer, sent_body, sent_checksum, sent_head, sent_size, sent_trailers, signs_chunks, length_case}
+use Rattle.awsign_chunk.specs.Sent.{IsUploadOf, sent_body, sent_checksum, sent_head, sent_size, sent_trailers, signs_chunks, length_case}
 use Rattle.awsign_chunk.specs.declared.sent.ChunkedUpload.{ChunkedUpload}
 use Rattle.awsign_chunk.specs.declared.status.ChunkStatus.{ChunkStatus}
 use Rattle.awsign_chunk.specs.declared.status.ChunkStatus.TheVariants.{DataChanged, DataTooLong, Ended, FileFault, Unannounced, UnfitTrailer}
@@ -79,19 +79,19 @@ module _ (wanted : SignWanted) (n : ℕ) (signer : SignsFor) (at : Instant) (uri
   -- the text of the body of these bytes, and the head, by the request that is signed
   body_text : List ℕ → Case → List ℕ
   body_text bytes c =
-      sent_body (signs_chunks wanted.options) (chunks_signer signer) at (signature_of c) (sent_size wanted.options) bytes (sent_trailers wanted bytes)
+      sent_body (signs_chunks wanted.options) (who_signs signer) at (signature_of c) (sent_size wanted.options) bytes (sent_trailers wanted bytes)
 
   module _ (left body body_now : Option (List ℕ)) where
     -- what was written of the body, by what the words ask for
     BodySent : Result (Unit {0}) ChunkStatus → Type 0
     BodySent result =
-        SendsBody (signs_chunks wanted.options) (chunks_signer signer) at (sent_size wanted.options) n (sent_checksum wanted.options)
+        SendsBody (signs_chunks wanted.options) (who_signs signer) at (sent_size wanted.options) n (sent_checksum wanted.options)
         (signature_of (length_case wanted n signer at uri)) wanted.trailers left body body_now result
 
     -- what was written of the body, by what was made of the words
     PlanSent : Bool → ℕ → ℕ → List Trailer → Result (Unit {0}) ChunkStatus → Type 0
     PlanSent is_signed size long trailers result =
-        SendsBody is_signed (chunks_signer signer) at size long (sent_checksum wanted.options) (signature_of (length_case wanted n signer at uri)) trailers left body body_now result
+        SendsBody is_signed (who_signs signer) at size long (sent_checksum wanted.options) (signature_of (length_case wanted n signer at uri)) trailers left body body_now result
 
     by_words : (result : Result (Unit {0}) ChunkStatus)
         → PlanSent upload.plan.is_signed upload.plan.options.chunk_size upload.plan.length upload.plan.trailers result → BodySent result
@@ -121,7 +121,7 @@ module _ (wanted : SignWanted) (n : ℕ) (signer : SignsFor) (at : Instant) (uri
 
     -- the body and the head were written
     pub sends_whole : (status : Status) (out out_now : Option (List ℕ))
-        → SendsBody upload.plan.is_signed (chunks_signer signer) at upload.plan.options.chunk_size upload.plan.length (sent_checksum wanted.options)
+        → SendsBody upload.plan.is_signed (who_signs signer) at upload.plan.options.chunk_size upload.plan.length (sent_checksum wanted.options)
         (signature_of (length_case wanted n signer at uri)) upload.plan.trailers left body body_now (Ok tt)
         → HasWritten upload.head.items status out out_now → SendsUpload wanted n signer at uri left (Ended status) body body_now out out_now
     unfolding BodySent PlanSent body_text
@@ -132,7 +132,7 @@ module _ (wanted : SignWanted) (n : ℕ) (signer : SignsFor) (at : Instant) (uri
 
     -- the body was cut short
     pub sends_part : (status : ChunkStatus) (out : Option (List ℕ))
-        → SendsBody upload.plan.is_signed (chunks_signer signer) at upload.plan.options.chunk_size upload.plan.length (sent_checksum wanted.options)
+        → SendsBody upload.plan.is_signed (who_signs signer) at upload.plan.options.chunk_size upload.plan.length (sent_checksum wanted.options)
         (signature_of (length_case wanted n signer at uri)) upload.plan.trailers left body body_now (Err status)
         → SendsUpload wanted n signer at uri left status body body_now out out
     unfolding BodySent PlanSent body_text

@@ -8,7 +8,7 @@ use Rattle.std.specs.Prelude.{IfErr, IsErrAnd, OnErr, OnOk, Result}
 use Rattle.smithy_core.specs.Moment.{Instant}
 use Rattle.smithy_core.specs.Outside.{Gains, GainsProperPrefix, IsAllOf, IsAtEnd, IsCutOf}
 use Rattle.smithy_core.proofs.CutLemmas.{cut_at_end, cut_at_start}
-use Rattle.smithy_core.proofs.GainLemmas.{gains_at_start, gains_front, gains_join, gains_last, gains_nothing}
+use Rattle.smithy_core.proofs.GainLemmas.{gains_at_start, gains_front, gains_join, gains_nothing, gains_twice}
 use Rattle.eventstream.specs.Key.{Signer}
 use Rattle.sigv4.specs.ChunkTold.{ChunkTold, signs_over}
 use Rattle.aws_chunked.specs.Body.{Trailer}
@@ -45,10 +45,6 @@ proper_within held now front rest part = (
 -- a proper front of what stands behind a text that was gained
 proper_behind : (held mid now : Option (List ℕ)) (front rest : List ℕ) → Gains held mid front → GainsProperPrefix mid now rest → GainsProperPrefix held now (front ++ rest)
 proper_behind held mid now front rest gained part = (part.0, part.1, gains_join held mid now part.0 rest (front ++ rest) (gains_front held mid front rest gained) part.2)
-
--- two texts, one behind the other
-gains_both : (held mid now : Option (List ℕ)) (front rest : List ℕ) → Gains held mid front → Gains mid now rest → Gains held now (front ++ rest)
-gains_both held mid now front rest first second = gains_last held mid now rest (front ++ rest) (gains_front held mid front rest first) second
 
 -- ## Cuts of data
 
@@ -160,17 +156,6 @@ module _ (is_signed : Bool) (who : Signer) (t : Instant) (size : ℕ) where
     whole = λ rest trailers may. chunk_first is_signed who t size before piece rest trailers some full within may;
   }
 
-  -- there was no data for a chunk
-  pub nothing_goes_on : (before piece : List ℕ) (told : ChunkTold) (held : Option (List ℕ)) → piece ≡ [] → told ≡ signs_over before who t
-      → HasWrittenPiece is_signed who t size before piece told held held
-  nothing_goes_on before piece told held none over = record {
-    after = before;
-    text = [];
-    signer = over;
-    gained = gains_nothing held;
-    whole = λ rest trailers may. ap (λ (x : List ℕ). text_from is_signed who t size before (x ++ rest) trailers) none;
-  }
-
   -- nothing was written
   nothing_written : (before bytes : List ℕ) (trailers : List Trailer) (held : Option (List ℕ))
       → GainsProperPrefix held held (text_from is_signed who t size before bytes trailers)
@@ -238,7 +223,7 @@ module _ (is_signed : Bool) (who : Signer) (t : Instant) (size : ℕ) where
             last = on.after;
             signer = on.signer;
             text = come.text ++ on.text;
-            gained = gains_both held so_far now come.text on.text come.gained on.gained;
+            gained = gains_twice held so_far now come.text on.text come.gained on.gained;
             whole = λ rest trailers may.
                 ap (λ (x : List ℕ). text_from is_signed who t size first x trailers) (append_assoc come.bytes piece rest)
                 ∙ come.whole (piece ++ rest) trailers (inl refl)
@@ -374,7 +359,7 @@ module _ (is_signed : Bool) (who : Signer) (t : Instant) (size : ℕ) where
           (
             sent.long,
             rw (sent.whole (trailers ++ checksum_trailers checksum sent.bytes))
-                (gains_both held mid now sent.text _ sent.gained (subst (Gains mid now) (is sent.last sent.bytes sent.signer sent.holds) gained)),
+                (gains_twice held mid now sent.text _ sent.gained (subst (Gains mid now) (is sent.last sent.bytes sent.signer sent.holds) gained)),
           ),
         )
 

@@ -1,5 +1,5 @@
 -- What is sent, or why there is none.
-use Rattle.std.proofs.Common.{◌≡◌, ◌⊎◌, ℕ, Bool, true, false, inl, inr, List, Option, Some, None, codes, refl, ap, subst, ◌∙◌}
+use Rattle.std.proofs.Common.{◌≡◌, ℕ, Bool, true, false, inl, inr, List, Option, Some, None, codes, refl, ap, subst, ◌∙◌}
 use Rattle.std.specs.Prelude.{IsTrue, Result, Ok, Err, string_bytes}
 use Rattle.smithy_core.specs.Civil.{is_in_years}
 use Rattle.smithy_core.specs.Moment.{Instant}
@@ -7,17 +7,14 @@ use Rattle.smithy_core.specs.TextPairs.{last_value}
 use Rattle.smithy_http.specs.Target.{Target, target_of}
 use Rattle.sigv4.specs.ChunkTold.{signs_over}
 use Rattle.sigv4.specs.Host.{host_text}
-use Rattle.sigv4.specs.Refusal.{unfit_headers}
 use Rattle.sigv4.specs.Request.{Case}
 use Rattle.sigv4.specs.Signed.{signed_headers, signed_target}
 use Rattle.sigv4.specs.declared.error.SigningError.{SigningError}
 use Rattle.sigv4.specs.declared.error.SigningError.TheVariants.{MomentOutOfRange}
-use Rattle.aws_chunked.specs.Announcement.{announced_payload, unannounced}
-use Rattle.aws_chunked.specs.Body.{Trailer}
-use Rattle.aws_chunked.specs.declared.announcement.AnnounceFault.{AnnounceFault}
+use Rattle.aws_chunked.specs.Announcement.{announced_payload}
 use Rattle.aws_chunked.specs.declared.announcement.AnnounceFault.TheVariants as announce
 use Rattle.awsign_words.specs.Words.{SignWanted, sign_wanted}
-use Rattle.awsign_run.specs.Chosen.{IsFaultOf, SignRefusal, SignsFor, refusal_of}
+use Rattle.awsign_run.specs.Chosen.{IsFaultOf, SignRefusal, SignsFor, refusal_of, who_signs}
 use Rattle.awsign_text.specs.Forms.{text_in_form}
 use Rattle.awsign_run.specs.Signing.{IsPrinted, SignsAsked, SignsPrinted, asked_case, asked_form, asked_refusal}
 use Rattle.awsign_run.specs.Status.{fault_status}
@@ -25,7 +22,7 @@ use Rattle.awsign_run.specs.declared.fault.Fault.{Fault}
 use Rattle.awsign_run.specs.declared.fault.Fault.TheVariants.{NoMemory as FaultNoMemory}
 use Rattle.awsign_run.specs.declared.signing.SignedRequest.{SignedRequest}
 use Rattle.awsign_run.specs.declared.status.Status.TheVariants.{Done, BadWord, CouldNotReadFile, DataFault, Refused, OutputFault, NoMemory}
-use Rattle.awsign_chunk.specs.Sent.{AnnouncesBody, IsAnnouncedAs, IsUploadBehind, IsUploadOf, MakesSent, MakesSentFor, announced_trailers, announced_wanted, chunks_signer, sent_case, sent_options, signs_chunks, unannounced_status}
+use Rattle.awsign_chunk.specs.Sent.{AnnouncesBody, IsAnnouncedAs, IsUploadBehind, IsUploadOf, MakesSent, MakesSentFor, announced_trailers, announced_wanted, sent_case, signs_chunks}
 use Rattle.awsign_chunk.specs.declared.sent.Announced.{Announced}
 use Rattle.awsign_chunk.specs.declared.sent.ChunkedUpload.{ChunkedUpload}
 use Rattle.awsign_chunk.specs.declared.status.ChunkStatus.{ChunkStatus}
@@ -38,17 +35,6 @@ signed_in_years c none = by (is_in_years c.at) refl
     by : (years : Bool) → is_in_years c.at ≡ years → is_in_years c.at ≡ true
     by true is = is
     by false late = absurd (let no : ◌≡◌ {A = Option SigningError} (Some (MomentOutOfRange c.at)) None = rw late at none in cc)
-
--- why a body isn't announced
-announced_not : (wanted : SignWanted) (n : ℕ) (trailers : List Trailer) (fault : AnnounceFault) → unfit_headers 1 trailers ≡ None
-    → unannounced (sent_options wanted.options n trailers) trailers ≡ Some fault → AnnouncesBody wanted n trailers (Err (unannounced_status fault))
-announced_not wanted n trailers announce.NoMemory fit is = tt
-announced_not wanted n trailers fault fit is = (fit, is)
-
-pub not_announced : (wanted : SignWanted) (n : ℕ) (trailers : List Trailer) (fault : AnnounceFault) → unfit_headers 1 trailers ≡ None
-    → (unannounced (sent_options wanted.options n trailers) trailers ≡ Some fault) ⊎ (fault ≡ announce.NoMemory) → AnnouncesBody wanted n trailers (Err (unannounced_status fault))
-not_announced wanted n trailers fault fit (inl is) = announced_not wanted n trailers fault fit is
-not_announced wanted n trailers fault fit (inr is) = rw is tt
 
 -- a signed request, as it is printed before this file
 printed_before : (asks : SignWanted) (case : Target → Case) (signed : SignedRequest) (file : Option (List ℕ)) (text : List ℕ) → SignsAsked asks case (Ok signed) → IsPrinted asks signed file text
@@ -114,7 +100,7 @@ module _ (wanted : SignWanted) (n : ℕ) (signer : SignsFor) (at : Instant) wher
           options = sent.1.options ∙ is.options;
           is_signed = sent.1.is_signed;
           trailers = sent.1.trailers;
-          over = sent.1.over ∙ ap (λ (before : List ℕ). signs_over before (chunks_signer signer) at) sent.0.5;
+          over = sent.1.over ∙ ap (λ (before : List ℕ). signs_over before (who_signs signer) at) sent.0.5;
           sum = sent.1.sum;
         }
 

@@ -1,11 +1,8 @@
 -- What a run says of the faults that its output counted.
-use Rattle.std.proofs.Common.{◌≡◌, ℕ, refl, sym, ap, ◌∙◌, arith}
-use Rattle.std.specs.Prelude.{IsErrOf, Result, Ok, Err}
+use Rattle.std.proofs.Common.{◌≡◌, ℕ, refl, arith}
+use Rattle.std.specs.Prelude.{IsErrOf, Result, Err}
 use Rattle.smithy_core.specs.Outside.{CountsFault}
-use Rattle.smithy_core.specs.declared.outside.sink.SinkError.{SinkError}
 use Rattle.smithy_core.specs.declared.outside.sink.SinkError.TheVariants as sink
-use Rattle.awsign_run.specs.Status.{sink_status}
-use Rattle.awsign_run.specs.declared.status.Status.TheVariants.{Done, OutputFault}
 
 -- ## Of any run
 
@@ -28,18 +25,3 @@ counts_on a b fault output before now first second =
     same a b fault output first second is = rw second (let e : Err fault ≡ Err output = rw first at is in cc)
 
 -- ## Of a text
-
-sink_failed : (fault : SinkError) → sink_status fault ≡ OutputFault → fault ≡ sink.Failed
-sink_failed sink.Failed is = refl
-sink_failed sink.NoMemory is = cc
-
--- it was written
-pub counts_written : (before now : ℕ) → now ≡ before → CountsFault (Done ≡ OutputFault) before now
-counts_written before now same = rw same (counts_nothing (Done ≡ OutputFault) before (λ is. cc))
-
--- it wasn't
-pub counts_unwritten : (result : Result (Unit {0}) SinkError) (fault : SinkError) (before now : ℕ) → result ≡ Err fault → CountsFault (IsErrOf result sink.Failed) before now
-    → CountsFault (sink_status fault ≡ OutputFault) before now
-counts_unwritten result fault before now given =
-    counts_alike (IsErrOf result sink.Failed) (sink_status fault ≡ OutputFault) before now (λ is. given ∙ ap Err (sink_failed fault is))
-    (λ is. let e = sym given ∙ is in let same : fault ≡ sink.Failed = cc in ap sink_status same)

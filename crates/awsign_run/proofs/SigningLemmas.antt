@@ -1,11 +1,10 @@
 -- The signed request of words.
-use Rattle.std.proofs.Common.{◌≡◌, ◌<◌, ℕ, ◌⊎◌, inl, inr, List, [], ◌∷◌, Option, Some, None, length, refl, ap, subst, arith, ◌∙◌}
+use Rattle.std.proofs.Common.{◌≡◌, ℕ, ◌⊎◌, inl, inr, List, Option, Some, None, refl, ap, subst, arith, ◌∙◌}
 use Rattle.std.specs.Prelude.{Result, Ok, Err, String, string_bytes}
 use Rattle.std.specs.Option.{option_or}
 use Rattle.std.specs.declared.alloc.Global.{Global}
 use Rattle.http_uri.specs.declared.uri.Uri.{Uri}
 use Rattle.smithy_core.proofs.PairLemmas.{option_or_assoc}
-use Rattle.smithy_core.specs.Identity.{access_key_id, secret_access_key}
 use Rattle.smithy_core.specs.Moment.{Instant}
 use Rattle.smithy_core.specs.declared.request.HttpRequest.{HttpRequest}
 use Rattle.smithy_http.specs.QueryWriter.{ReadsTarget, SpellsTarget}
@@ -19,8 +18,7 @@ use Rattle.sigv4.specs.Request.{Case}
 use Rattle.sigv4.specs.Signed.{signature_of, signed_headers, signed_target}
 use Rattle.sigv4.specs.declared.error.SigningError.{SigningError}
 use Rattle.sigv4.specs.declared.error.SigningError.TheVariants.{NoMemory as SignedNoMemory}
-use Rattle.aws_signing.specs.SigningBy.{IsSignedRequestBy, RefusesBy, SigningState, first_empty, settings_case, unless_filled}
-use Rattle.aws_signing.specs.declared.fault.AwsSigningError.{AwsSigningError}
+use Rattle.aws_signing.specs.SigningBy.{IsSignedRequestBy, RefusesBy, SigningState, settings_case}
 use Rattle.aws_signing.proofs.SpelledLemmas.{refused_for, signed_for}
 use Rattle.awsign_run.specs.Chosen.{refusal_of, signs_for_of, unsigned}
 use Rattle.awsign_run.specs.Faults.{signing_fault}
@@ -42,20 +40,6 @@ answered error = inl refl
 pub url_unread : (url : List ℕ) (case : Target → Case) (fault : UriFault) → ReadsTarget url (Err fault) → RefusesUrl url case (signing_fault (target_error fault))
 url_unread url case target.InvalidUri none = inl (inr (none, refl))
 url_unread url case target.NoMemory none = inr refl
-
-text_filled : (text : List ℕ) (fault : AwsSigningError) → 0 < length text → unless_filled text fault ≡ None
-text_filled [] fault some = absurd (omega (arith, some))
-text_filled (byte ∷ bytes) fault some = refl
-
--- no text of who is chosen is empty
-pub nothing_empty : (chosen : Chosen) → first_empty chosen.credentials (string_bytes chosen.region) (string_bytes chosen.service) ≡ None
-nothing_empty chosen =
-    rw (
-      text_filled (access_key_id chosen.credentials) _ chosen.has_key_id,
-      text_filled (secret_access_key chosen.credentials) _ chosen.has_secret,
-      text_filled (string_bytes chosen.region) _ chosen.has_region,
-      text_filled (string_bytes chosen.service) _ chosen.has_service,
-    ) refl
 
 -- ## A request whose target was read
 

@@ -8,7 +8,7 @@ use Rattle.env_config.specs.Laws.{value_in}
 use Rattle.env_config.specs.Raw.{everything, raw}
 use Rattle.env_config.specs.Sections.{FaultyLine, FileText, Sections, after_file, files_from, no_sections, sections, with_file}
 use Rattle.env_config.specs.Texts.{Named}
-use Rattle.env_config.proofs.LaterLemmas.{later_profile}
+use Rattle.env_config.proofs.LaterLemmas.{later_profile, files_go_on}
 use Rattle.awsign_words.specs.Words.{OptionValues, has}
 use Rattle.aws_settings.specs.Choice.{ChosenKey, ChosenSettings, Lack, Profile, choice_by, chosen_key, chosen_settings, faulty, filled, key_behind, key_or, key_with, no_key, no_secret, profile_in, profile_of, region_by, settings_of_parts, variable, variable_key}
 use Rattle.awsign_run.specs.Chosen.{asked_profile}
@@ -19,16 +19,6 @@ use Rattle.awsign_settings.specs.declared.part.Part.{Part}
 use Rattle.awsign_settings.specs.declared.part.Part.TheVariants.{KeyId, Secret, Token, Region}
 
 -- ## Files
-
--- files go on where the files before them end
-go_on : (s before : Sections) (files more : List FileText) → files_from everything s files ≡ Ok before → files_from everything s (files ++ more) ≡ files_from everything before more
-go_on s before [] more is = cc
-go_on s before (file ∷ files) more is = by (raw everything file.contents) (λ next over. go_on next before files more over) is
-  where
-    by : (read : Result (Named (List (List ℕ × List ℕ))) (ℕ × List ℕ)) → ((next : Sections) → files_from everything next files ≡ Ok before → files_from everything next (files ++ more) ≡ files_from everything before more)
-        → after_file file (λ read. files_from everything (with_file everything s file.kind read) files) read ≡ Ok before → after_file file (λ read. files_from everything (with_file everything s file.kind read) (files ++ more)) read ≡ files_from everything before more
-    by (Ok read) goes_on is = goes_on (with_file everything s file.kind read) is
-    by (Err fault) goes_on is = absurd cc
 
 -- a file that gives sections by itself gives some behind others
 one_more : (s one : Sections) (file : FileText) → sections (file ∷ []) ≡ Ok one → (after : Sections) × (files_from everything s (file ∷ []) ≡ Ok after)
@@ -56,12 +46,12 @@ with_one : (front : List FileText) (before one : Sections) (file : FileText) →
 unfolding sections
 with_one front before one file before_is alone_is =
     let more = one_more before one file alone_is in
-    (more.0, go_on no_sections before front (file ∷ []) before_is ∙ more.1)
+    (more.0, files_go_on no_sections before front (file ∷ []) before_is ∙ more.1)
 
 faulty_with : (front : List FileText) (before : Sections) (line : FaultyLine) (file : FileText) (files : List FileText) → sections front ≡ Ok before → sections (file ∷ []) ≡ Err line
     → sections (front ++ file ∷ files) ≡ Err line
 unfolding sections
-faulty_with front before line file files before_is is = go_on no_sections before front (file ∷ files) before_is ∙ faulty_behind before line file files is
+faulty_with front before line file files before_is is = files_go_on no_sections before front (file ∷ files) before_is ∙ faulty_behind before line file files is
 
 -- ## Parts
 

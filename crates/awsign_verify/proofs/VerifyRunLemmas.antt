@@ -1,9 +1,9 @@
 -- A run of `awsign verify`.
-use Rattle.std.proofs.Common.{◌≡◌, ℕ, ◌⊎◌, inl, inr, List, Option, Some, None, refl}
-use Rattle.std.specs.Prelude.{Result, Ok, Err, string_bytes}
+use Rattle.std.proofs.Common.{◌≡◌, ℕ, inl, inr, List, Option, None, refl}
+use Rattle.std.specs.Prelude.{Result, Ok, Err}
 use Rattle.std.specs.Global.{Vec}
 use Rattle.smithy_core.specs.Moment.{Instant}
-use Rattle.smithy_core.specs.Outside.{IsAllOf, IsLongerThan}
+use Rattle.smithy_core.specs.Outside.{IsLongerThan}
 use Rattle.smithy_core.specs.declared.outside.read_all.ReadFault.{ReadFault}
 use Rattle.smithy_core.specs.declared.outside.read_all.ReadFault.TheVariants as read
 use Rattle.smithy_core.specs.declared.request.HttpRequest.{HttpRequest}
@@ -17,10 +17,9 @@ use Rattle.awsign_run.specs.declared.status.Status.TheVariants.{Done, NoMemory, 
 use Rattle.awsign_words.specs.Words.{OptionValues, VerifyWanted}
 use Rattle.awsign_verify.specs.Message.{message_body}
 use Rattle.awsign_verify.specs.Verify.{JudgesFor, verify_signer}
-use Rattle.awsign_verify.specs.VerifyRun.{IsFileFault, IsInputFault, JudgesInput, JudgesRequest, RanVerify, ReceivesAsked, ReceivesMessage, WritesText, most_message, read_verify_status}
-use Rattle.awsign_verify.specs.declared.run.ReceivedRequest.{ReceivedRequest}
+use Rattle.awsign_verify.specs.VerifyRun.{IsFileFault, IsInputFault, JudgesInput, JudgesRequest, RanVerify, WritesText, most_message, read_verify_status}
 use Rattle.awsign_verify.specs.declared.status.VerifyStatus.{VerifyStatus}
-use Rattle.awsign_verify.specs.declared.status.VerifyStatus.TheVariants.{BadLine, Ended, InputFault, TooLarge, Wrong}
+use Rattle.awsign_verify.specs.declared.status.VerifyStatus.TheVariants.{Ended, TooLarge}
 
 -- how a run ends that wrote all, or whose output failed
 abbrev IsOfOutput : VerifyStatus → Type 0
@@ -41,17 +40,6 @@ pub input_lacks : (verify_wanted : VerifyWanted) (left : Option (List ℕ)) (fau
 input_lacks verify_wanted left read.Failed none longer = none
 input_lacks verify_wanted left read.TooLarge none longer = (none, longer refl)
 input_lacks verify_wanted left read.NoMemory none longer = tt
-
--- the request of bytes that are all of the input
-pub received_all : (verify_wanted : VerifyWanted) (left : Option (List ℕ)) (bytes : List ℕ) (result : Result ReceivedRequest VerifyStatus) → verify_wanted.named ≡ None → IsAllOf left bytes
-    → ReceivesMessage bytes result → ReceivesAsked verify_wanted left result
-received_all verify_wanted left bytes (Ok received) none all receives = rw (none, receives.0) (all, receives.1)
-received_all verify_wanted left bytes (Err (BadLine place)) none all receives = rw none (bytes, all, receives)
-received_all verify_wanted left bytes (Err (Ended NoMemory)) none all receives = tt
-received_all verify_wanted left bytes (Err (Ended status)) none all receives = elim receives [ ]
-received_all verify_wanted left bytes (Err InputFault) none all receives = elim receives [ ]
-received_all verify_wanted left bytes (Err TooLarge) none all receives = elim receives [ ]
-received_all verify_wanted left bytes (Err (Wrong fault)) none all receives = elim receives [ ]
 
 -- what is found of a request is no end of an output
 unended_for : (options : OptionValues) (who : Result SignsFor SignRefusal) (request : HttpRequest) (body : List ℕ) (at : Instant) (status : VerifyStatus)

@@ -4,8 +4,6 @@ use Rattle.std.specs.Prelude.{◌==◌, ◌&&◌, bytes_eq, codes, if◌then◌e
 use Rattle.std.specs.Global.{Vec}
 use Rattle.std.specs.List.{concat}
 use Rattle.std.proofs.lemmas.Bool.{eqb-true}
-use Rattle.std.proofs.lemmas.Bool.Decides.{nat_tests}
-use Rattle.std.proofs.lemmas.Int.{ints}
 use Rattle.std.proofs.lemmas.Slice.Eq.{bytes_eq-Decides}
 use Rattle.hex.specs.Hex.{encode_lower}
 use Rattle.smithy_core.specs.Civil.{IsInYears, is_in_years}
@@ -15,18 +13,19 @@ use Rattle.smithy_core.specs.Message.{Parts}
 use Rattle.smithy_core.specs.Moment.{Instant, floor_secs}
 use Rattle.smithy_core.specs.declared.header.HeaderValue.{HeaderValue}
 use Rattle.smithy_core.specs.declared.header.HeaderValue.TheVariants.{ByteArray, Timestamp}
+use Rattle.smithy_core.proofs.YearLemmas.{in_years}
 use Rattle.eventstream.specs.Bind.{◌>>=◌}
 use Rattle.eventstream.specs.Frame.{frame, frame_len, unframed}
 use Rattle.eventstream.specs.Key.{Signer}
 use Rattle.eventstream.specs.Laws.{IsProper, floored_message}
-use Rattle.eventstream.specs.Link.{chain, date_header, link_code, link_message, link_signature}
+use Rattle.eventstream.specs.Link.{chain, date_header, link_code, link_message, link_signature, carried_date}
 use Rattle.eventstream.specs.Read.{read}
 use Rattle.eventstream.specs.Reading.{First, begins, fault, first_of, leftover, nothing, reading, reading_within}
 use Rattle.eventstream.specs.declared.error.ErrorKind.{ErrorKind}
 use Rattle.eventstream.proofs.LinkLemmas.{code_header, length-link, link_framed}
 use Rattle.eventstream.proofs.ReadingLemmas.{goes_on, shorter}
 use Rattle.chain_watch.specs.Chain.{IsByte, IsChainOf, AnswersEvents, carried_moments}
-use Rattle.chain_watch.specs.Walk.{AnswersChain, Passed, after_closing, carried, carried_code, carried_date, chain_events, compared, frame_test, framed_message, if_framed, inner_event, signed_moment, walk_frames, walk_on, walk_outcome, walk_tested}
+use Rattle.chain_watch.specs.Walk.{AnswersChain, Passed, after_closing, carried, carried_code, chain_events, compared, frame_test, framed_message, if_framed, inner_event, signed_moment, walk_frames, walk_on, walk_outcome, walk_tested}
 use Rattle.chain_watch.specs.declared.chain_fault.ChainFault.{ChainFault}
 use Rattle.chain_watch.specs.declared.chain_fault.ChainFault.TheVariants.{Mismatch, NotChain}
 use Rattle.chain_watch.specs.declared.chain_fault.ChainPart.TheVariants.{Date, Headers, Inner}
@@ -108,9 +107,6 @@ carried_split (first ∷ second ∷ []) found is = by_code (carried_code first) 
     by_code (Some code) coded is = by_date code (carried_date second) coded refl is
 carried_split (first ∷ second ∷ third ∷ others) found is = cc
 
-years_of : (t : Instant) → is_in_years t ≡ true → IsInYears t
-years_of t is = grind (arith, ints, nat_tests)
-
 -- a whole second in the years
 moment_split : (t at : Instant) → signed_moment t ≡ Some at → (at ≡ t) × (floor_secs t ≡ t) × IsInYears t
 moment_split t at is = by_tests (t.nanos == 0) (is_in_years t) refl refl is
@@ -119,7 +115,7 @@ moment_split t at is = by_tests (t.nanos == 0) (is_in_years t) refl refl is
         → (at ≡ t) × (floor_secs t ≡ t) × IsInYears t
     by_tests true true whole within is =
         let same : at ≡ t = cc in
-        (same, ap (λ (n : ℕ). record { secs = t.secs; nanos = n }) (sym (eqb-true _ _ whole)), years_of t within)
+        (same, ap (λ (n : ℕ). record { secs = t.secs; nanos = n }) (sym (eqb-true _ _ whole)), in_years t within)
     by_tests true false whole within is = cc
     by_tests false within_is whole within is = cc
 

@@ -1,6 +1,6 @@
 -- What calls of a watch hand out, one after another.
 use Rattle.std.proofs.Common.{◌≡◌, ℕ, ◌+◌, List, [], ◌∷◌, ◌++◌, length, Result, Ok, Err, inl, inr, ◌⊎◌, refl, sym, ap, subst, ◌∙◌, append-nil, append_assoc, arith, length-append}
-use Rattle.std.proofs.lemmas.List.{append_cancel_left}
+use Rattle.std.proofs.lemmas.List.{append_cancel_left, nil_from_length}
 use Rattle.smithy_core.specs.Message.{Parts}
 use Rattle.eventstream.specs.Bind.{◌>>=◌}
 use Rattle.eventstream.specs.Key.{Signer}
@@ -14,10 +14,6 @@ use Rattle.chain_watch.proofs.FrameLemmas.{fault_in}
 use Rattle.chain_watch.proofs.WalkLemmas.{starts, walk_joined}
 
 -- ## One call
-
-none_long : (bytes : List ℕ) → length bytes ≡ 0 → bytes ≡ []
-none_long [] none = refl
-none_long (byte ∷ bytes) none = absurd (omega arith)
 
 none_gained : {A : Type 0} (before gained : List A) → before ++ gained ≡ before → gained ≡ []
 none_gained before gained same = append_cancel_left before gained [] (same ∙ sym (append-nil before))
@@ -33,7 +29,7 @@ record Does (old : Watching) (call : Feeding) (new : Watching) : Type 0 where
 idles : (old new : Watching) (call : Feeding) (before : List Parts) → new ≡ old → before ++ call.events ≡ before → new.fed ≡ old.fed + length call.taken
     → AnswersState new call.answer → Does old call new
 idles old new call before same gained fed answer =
-    let none : call.taken ≡ [] = none_long call.taken (omega (arith, fed, ap (λ (watch : Watching). watch.fed) same)) in
+    let none : call.taken ≡ [] = nil_from_length call.taken (omega (arith, fed, ap (λ (watch : Watching). watch.fed) same)) in
     record {
       signer = ap (λ (watch : Watching). watch.signer) same;
       walked = rw (none, none_gained before call.events gained, same) refl;
@@ -52,7 +48,7 @@ takes old new call before piece fed whole =
   where
     all : (call.taken ≡ call.piece) ⊎ (call.taken ≡ []) → call.taken ≡ call.piece
     all (inl is) = is
-    all (inr none) = none ∙ sym (none_long call.piece (omega (arith, fed, piece.fed, ap length none)))
+    all (inr none) = none ∙ sym (nil_from_length call.piece (omega (arith, fed, piece.fed, ap length none)))
 
 does : (old new : Watching) (call : Feeding) → IsFed old call new → Does old call new
 does old new call is = by_point old.at refl is.feeds
@@ -72,11 +68,11 @@ does old new call is = by_point old.at refl is.feeds
 -- ## Calls, one after another
 
 -- events before a walk, some and then others
-onto_more : (first second : List Parts) (others : Walk) → walk_onto (first ++ second) others ≡ walk_onto first (walk_onto second others)
+pub onto_more : (first second : List Parts) (others : Walk) → walk_onto (first ++ second) others ≡ walk_onto first (walk_onto second others)
 onto_more first second others = ap (λ (events : List Parts). record { events = events; at = others.at }) (append_assoc first second others.events)
 
 -- what is walked after the bytes that a call took goes on from the point that it kept
-goes_on : (signer : Signer) (at kept : Point) (taken others : List ℕ) (events : List Parts) → walk signer at taken ≡ walk_onto events (walk signer kept [])
+pub goes_on : (signer : Signer) (at kept : Point) (taken others : List ℕ) (events : List Parts) → walk signer at taken ≡ walk_onto events (walk signer kept [])
     → walk signer at (taken ++ others) ≡ walk_onto events (walk signer kept others)
 goes_on signer at kept taken others events walked =
     let left = walk signer kept [] in

@@ -14,7 +14,7 @@ use Rattle.eventstream.specs.declared.error.ErrorKind.{ErrorKind}
 use Rattle.eventstream.specs.declared.error.ErrorKind.TheVariants as kinds
 use Rattle.eventstream.proofs.LinkLemmas.{length-link_code}
 use Rattle.chain_watch.specs.declared.chain_fault.ChainFault.{ChainFault}
-use Rattle.chain_watch.specs.declared.chain_fault.ChainFault.TheVariants.{Mismatch, NoMemory, NotChain}
+use Rattle.chain_watch.specs.declared.chain_fault.ChainFault.TheVariants.{NoMemory, NotChain}
 use Rattle.chain_watch.specs.declared.chain_fault.ChainPart.{ChainPart}
 use Rattle.chain_watch.specs.declared.chain_fault.ChainPart.TheVariants.{Inner}
 use Rattle.chain_watch.specs.Frame.{HoldsEvent, part_fault}
@@ -112,14 +112,6 @@ tested_code : (signer : Signer) (signature : List ℕ) (place : ℕ) (message : 
     → frame_test signer signature place message ≡ compared place code (link_code signer signature message.payload date) event
 unfolding frame_test
 tested_code signer signature place message code date event headers moment payload = rw (headers, moment, payload) refl
-
-pub test_differs : (signer : Signer) (signature : List ℕ) (place : ℕ) (message : Parts) (code recomputed : List ℕ) (date : Instant) (event : Option Parts)
-    → carried message.headers ≡ Some (code, date) → signed_moment date ≡ Some date → inner_event message.payload ≡ Some event
-    → recomputed ≡ link_code signer signature message.payload date → bytes_eq code recomputed ≡ false
-    → frame_test signer signature place message ≡ Err (Mismatch place code recomputed)
-test_differs signer signature place message code recomputed date event headers moment payload is other =
-    tested_code signer signature place message code date event headers moment payload
-    ∙ ap (λ (again : List ℕ). compared place code again event) (sym is) ∙ rw other refl
 
 pub test_passes : (signer : Signer) (signature : List ℕ) (place : ℕ) (message : Parts) (code recomputed next : List ℕ) (date : Instant) (event : Option Parts)
     → carried message.headers ≡ Some (code, date) → signed_moment date ≡ Some date → inner_event message.payload ≡ Some event

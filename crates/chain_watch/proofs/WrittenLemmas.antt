@@ -1,27 +1,23 @@
 -- A chain that was written is accepted.
-use Rattle.std.proofs.Common.{◌≡◌, ℕ, zero, suc, ◌+◌, nat_lt, ◌/◌, ◌*◌, ℤ, pos, ◌+ℤ◌, ◌*ℤ◌, Bool, true, false, List, [], ◌∷◌, ◌++◌, length, map, All, Option, Some, None, Ok, refl, sym, ap, ◌∙◌, append-nil, append_assoc, arith}
-use Rattle.std.specs.Prelude.{◌&&◌, codes, if◌then◌else◌}
+use Rattle.std.proofs.Common.{◌≡◌, ℕ, ◌+◌, ◌/◌, ◌*◌, ℤ, pos, ◌+ℤ◌, ◌*ℤ◌, Bool, true, false, List, [], ◌∷◌, ◌++◌, length, map, All, Option, Some, None, Ok, refl, sym, ap, ◌∙◌, append-nil, append_assoc, arith}
+use Rattle.std.specs.Prelude.{if◌then◌else◌}
 use Rattle.std.specs.Int.{w64, cast_unsigned, saturate_signed, to_be_bytes}
 use Rattle.std.specs.List.{AllByRecursion, concat}
 use Rattle.std.specs.Ordering.{int_eq}
 use Rattle.std.proofs.lemmas.Slice.Eq.{bytes_eq-Decides}
-use Rattle.std.proofs.lemmas.Bool.Decides.{nat_tests}
-use Rattle.std.proofs.lemmas.Int.{ints}
-use Rattle.std.proofs.lemmas.List.Elements.{All-from_recursion, recursion_from_All}
-use Rattle.std.proofs.lemmas.Str.{IsUtf8-from_ascii}
-use Rattle.std.specs.Str.{IsAscii}
-use Rattle.std.proofs.lemmas.Bool.{ltb-true}
-use Rattle.smithy_core.specs.Civil.{IsInYears, is_in_years}
+use Rattle.std.proofs.lemmas.List.Elements.{recursion_from_All}
+use Rattle.smithy_core.specs.Civil.{IsInYears}
 use Rattle.smithy_core.specs.Header.{Header}
 use Rattle.smithy_core.specs.Message.{Parts}
 use Rattle.smithy_core.specs.Moment.{Instant, floor_ms, floor_secs, floored}
 use Rattle.smithy_core.specs.declared.header.HeaderValue.{HeaderValue}
-use Rattle.smithy_core.specs.declared.header.HeaderValue.TheVariants.{ByteArray, Timestamp}
+use Rattle.smithy_core.specs.declared.header.HeaderValue.TheVariants.{Timestamp}
+use Rattle.smithy_core.proofs.YearLemmas.{years_in}
 use Rattle.eventstream.specs.Frame.{block, first_unspelled, frame, spelling, unframed, unfit_lengths, unspelled, unspelled_value, value_spelling}
 use Rattle.eventstream.specs.Key.{Signer}
 use Rattle.eventstream.specs.Kind.{timestamp_kind}
-use Rattle.eventstream.specs.Laws.{IsProper, IsProperHeader, floored_header, floored_message, floored_value}
-use Rattle.eventstream.specs.Link.{chain, date_header, link_code, link_message, link_signature}
+use Rattle.eventstream.specs.Laws.{IsProper, floored_header, floored_message, floored_value}
+use Rattle.eventstream.specs.Link.{chain, link_code, link_message, link_signature}
 use Rattle.eventstream.specs.Read.{read}
 use Rattle.eventstream.specs.Reading.{begins, first_of}
 use Rattle.eventstream.specs.declared.error.ErrorKind.{ErrorKind}
@@ -29,6 +25,7 @@ use Rattle.eventstream.specs.declared.error.ErrorKind.TheVariants.{TimestampValu
 use Rattle.eventstream.proofs.FrameLemmas.{frame_again, length-frame}
 use Rattle.eventstream.proofs.ReadingLemmas.{frame_first}
 use Rattle.eventstream.proofs.RoundLemmas.{both_none}
+use Rattle.eventstream.proofs.LinkLemmas.{link_floored, link_proper}
 use Rattle.chain_watch.specs.Chain.{IsWholeChain}
 use Rattle.chain_watch.specs.Walk.{chain_events, frame_test, inner_event, signed_moment, walk_frames, walk_outcome}
 use Rattle.chain_watch.proofs.FrameLemmas.{inner_whole, link_carried, test_passes}
@@ -85,32 +82,6 @@ floored_framed m framed =
 
 -- ## Links
 
-abbrev pub all_ascii : List ℕ → Bool
-all_ascii [] = true
-all_ascii (b ∷ bytes) = nat_lt b 128 && all_ascii bytes
-
-pub is_ascii : (bytes : List ℕ) → all_ascii bytes ≡ true → IsAscii bytes
-is_ascii [] all = λ i. omega arith
-is_ascii (b ∷ bytes) all = by_first (nat_lt b 128) refl all (is_ascii bytes)
-  where
-    by_first : (first : Bool) → nat_lt b 128 ≡ first → (first && all_ascii bytes) ≡ true → (all_ascii bytes ≡ true → IsAscii bytes) → IsAscii (b ∷ bytes)
-    by_first true below others again zero = ltb-true _ _ below
-    by_first true below others again (suc i) = again others i
-    by_first false below others again i = cc
-
-link_proper : (signer : Signer) (signature bytes : List ℕ) (t : Instant) → IsProper (link_message signer signature bytes t)
-unfolding link_message
-link_proper signer signature bytes t =
-    let code : IsProperHeader (record { name = codes ":chunk-signature"; value = ByteArray (link_code signer signature bytes t) }) =
-    record { name = IsUtf8-from_ascii _ (is_ascii (codes ":chunk-signature") refl); value = tt } in
-    let date : IsProperHeader (date_header (floor_secs t)) = record { name = IsUtf8-from_ascii _ (is_ascii (codes ":date") refl); value = omega arith } in
-    let both : AllByRecursion IsProperHeader (link_message signer signature bytes t).headers = (code, (date, tt)) in
-    record { headers = All-from_recursion IsProperHeader (link_message signer signature bytes t).headers both }
-
-link_floored : (signer : Signer) (signature bytes : List ℕ) (t : Instant) → floored_message (link_message signer signature bytes t) ≡ link_message signer signature bytes t
-unfolding link_message
-link_floored signer signature bytes t = refl
-
 -- a stream that begins with the frame of a link begins with the link
 link_first : (signer : Signer) (signature bytes : List ℕ) (t : Instant) (more : List ℕ) → unframed (link_message signer signature bytes t) ≡ None
     → first_of (frame (link_message signer signature bytes t) ++ more) ≡ begins (link_message signer signature bytes t) more
@@ -118,15 +89,8 @@ link_first signer signature bytes t more framed =
     frame_first (link_message signer signature bytes t) more (link_proper signer signature bytes t) framed
     ∙ ap (λ (m : Parts). begins m more) (link_floored signer signature bytes t)
 
-years_in : (t : Instant) → IsInYears t → is_in_years t ≡ true
-years_in t years = grind (arith, ints, nat_tests)
-
 second_signed : (t : Instant) → IsInYears t → signed_moment (floor_secs t) ≡ Some (floor_secs t)
 second_signed t years = rw (years_in t years) refl
-
-link_payload : (signer : Signer) (signature bytes : List ℕ) (t : Instant) → (link_message signer signature bytes t).payload ≡ bytes
-unfolding link_message
-link_payload signer signature bytes t = refl
 
 -- a link passes the tests of its frame
 link_passes : (signer : Signer) (signature bytes : List ℕ) (t : Instant) (place : ℕ) (event : Option Parts) → IsInYears t → inner_event bytes ≡ Some event

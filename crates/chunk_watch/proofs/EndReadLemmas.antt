@@ -9,18 +9,15 @@ use Rattle.std.proofs.lemmas.List.{take-append-drop}
 use Rattle.sigv4.specs.Signature.{is_signature}
 use Rattle.aws_chunked.specs.Body.{Trailer}
 use Rattle.aws_chunked.specs.Decoded.{Decodes, DecodesOnly, IsPiecesText, IsSignature, IsText, IsTextOf, IsTrailer, StopsAtByte}
-use Rattle.aws_chunked.specs.Text.{crlf, cut_within, head_text, last_line, pieces_of_size, tail_text, trailer_line}
+use Rattle.aws_chunked.specs.Text.{crlf, head_text, last_line, tail_text, trailer_line}
 use Rattle.aws_chunked.specs.declared.decode.DecodeFault.TheVariants as stops
 use Rattle.aws_chunked.specs.declared.decode.Decoded.{Decoded}
+use Rattle.aws_chunked.proofs.SignatureLemmas.{signature_long}
+use Rattle.aws_chunked.proofs.CutLemmas.{cut_none}
 use Rattle.chunk_watch.specs.EndRead.{ReadsEnd, TakesEnd, empty_line, zeros}
-use Rattle.chunk_watch.proofs.SealedLemmas.{signature_long}
 use Rattle.chunk_watch.specs.Trailers.{IsTrailersEnd, trailers_text}
 use Rattle.chunk_watch.specs.declared.fault.ChunkFault.{ChunkFault}
 use Rattle.chunk_watch.specs.declared.fault.ChunkFault.TheVariants.{BadTrailers}
-
-no_pieces : (size : ℕ) → pieces_of_size size [] ≡ []
-unfolding pieces_of_size cut_within
-no_pieces size = refl
 
 zeros_signed : IsSignature zeros
 unfolding is_signature
@@ -79,7 +76,7 @@ text_of (t ∷ ts) signature bytes end =
       size_in_range = (omega arith, omega arith);
       is_signed = true;
       trailers_are = end.are;
-      is_text = subst (λ (pieces : List (List ℕ)). IsPiecesText true pieces (zeros ∷ signature ∷ []) (t ∷ ts) (empty_line ++ bytes)) (sym (no_pieces 1)) (
+      is_text = subst (λ (pieces : List (List ℕ)). IsPiecesText true pieces (zeros ∷ signature ∷ []) (t ∷ ts) (empty_line ++ bytes)) (sym (cut_none 1)) (
         Some zeros,
         signature ∷ [],
         Some signature,
@@ -103,7 +100,7 @@ module _ (bytes text : List ℕ) (text_is : text ≡ empty_line ++ bytes) where
       (subst (λ (t : List ℕ). IsTextOf decoded.body (map string_bytes decoded.signatures.items) decoded.trailers t) text_is is)) in
       let end : IsTrailersEnd decoded.trailers (string_bytes signature) bytes =
       end_of found.is_signed first (string_bytes signature) decoded.trailers bytes found.trailers_are
-      (subst (λ (pieces : List (List ℕ)). IsPiecesText found.is_signed pieces (first ∷ string_bytes signature ∷ []) decoded.trailers (empty_line ++ bytes)) (no_pieces found.size) found.is_text) in
+      (subst (λ (pieces : List (List ℕ)). IsPiecesText found.is_signed pieces (first ∷ string_bytes signature ∷ []) decoded.trailers (empty_line ++ bytes)) (cut_none found.size) found.is_text) in
       record {
         is = subst (λ (t : List Trailer). IsTrailersEnd t (string_bytes signature) bytes) (sym trailers_are) end;
         only = λ others other e.

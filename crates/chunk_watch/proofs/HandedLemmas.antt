@@ -15,6 +15,8 @@ use Rattle.aws_chunked.specs.Due.{signed_chunked_text, signed_chunks, trailers_s
 use Rattle.aws_chunked.specs.Made.{joined}
 use Rattle.aws_chunked.specs.Text.{chunk_text, crlf, cut_within, head_text, last_line, pieces_of_size, tail_text, trailer_line}
 use Rattle.aws_chunked.specs.Text as parts
+use Rattle.aws_chunked.proofs.SealedLawLemmas.{chunk_sealed, trailers_sealed}
+use Rattle.aws_chunked.proofs.SignatureLemmas.{signature_long}
 use Rattle.chunk_watch.specs.Handed.{EndsGiving, HandsWritten, end_text, last_signature}
 use Rattle.chunk_watch.specs.Signing.{Signing}
 use Rattle.chunk_watch.specs.Trailers.{IsTrailersEnd, JudgesTrailers, RefusesTrailers, are_announced}
@@ -24,7 +26,6 @@ use Rattle.chunk_watch.specs.declared.fault.ChunkFault.{ChunkFault}
 use Rattle.chunk_watch.specs.declared.fault.ChunkFault.TheVariants.{LongEnd, NoMemory}
 use Rattle.chunk_watch.specs.declared.limits.ChunkLimits.{ChunkLimits}
 use Rattle.chunk_watch.proofs.FrontWrittenLemmas.{chunk_written, empty_written}
-use Rattle.chunk_watch.proofs.SealedLemmas.{chunk_sealed, signature_long, trailers_sealed}
 use Rattle.chunk_watch.proofs.WalkLemmas.{any_cut, joined_both}
 
 -- ---- data that is cut every so many bytes

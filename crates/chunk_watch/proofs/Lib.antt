@@ -9,7 +9,6 @@ pub mod HandedLemmas
 pub mod KeepLemmas
 pub mod LeftLemmas
 pub mod LengthLemmas
-pub mod SealedLemmas
 pub mod StepLemmas
 pub mod WalkLemmas
 pub mod WatchLemmas

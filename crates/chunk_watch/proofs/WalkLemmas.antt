@@ -15,7 +15,7 @@ Step = List ℕ × ChunkPoint
 no_step : {s : Step} → ◌≡◌ {A = Option Step} None (Some s) → ⊥
 no_step {s} e = cc
 
-same_step : {a b : Step} → ◌≡◌ {A = Option Step} (Some a) (Some b) → a ≡ b
+pub same_step : {a b : Step} → ◌≡◌ {A = Option Step} (Some a) (Some b) → a ≡ b
 same_step {a} {b} e = cc
 
 -- ---- more bytes

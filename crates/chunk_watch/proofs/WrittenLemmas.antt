@@ -14,6 +14,7 @@ use Rattle.chunk_watch.specs.Walk.{ChunkPoint, Rules, at_end, chunk_compared, in
 use Rattle.chunk_watch.specs.Written.{BeginsChunk, HandsSigned}
 use Rattle.chunk_watch.specs.declared.fault.ChunkFault.TheVariants.{BadEnd, BadLine, LongChunk}
 use Rattle.chunk_watch.proofs.DigitLemmas.{first_digits}
+use Rattle.chunk_watch.proofs.WalkLemmas.{same_step}
 
 abbrev mark : List ℕ
 mark = codes ";chunk-signature="
@@ -164,9 +165,6 @@ module _ (most place : ℕ) (bytes signature given : List ℕ) (len : ℕ) where
 
 abbrev Step : Type 0
 Step = List ℕ × ChunkPoint
-
-same_step : {a b : Step} → ◌≡◌ {A = Option Step} (Some a) (Some b) → a ≡ b
-same_step {a} {b} e = cc
 
 pub hands_signed : (rules : Rules) → HandsSigned rules
 hands_signed rules = λ before left given place next e. by before left given place next (front_begun rules.most place left) refl e

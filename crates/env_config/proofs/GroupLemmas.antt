@@ -1,6 +1,6 @@
 -- The properties of other sections, group by group: what is put in a property is put at its key, and a look-up finds it.
-use Rattle.std.proofs.Common.{◌≡◌, ◌∙◌, ℕ, true, arith, List, [], ◌∷◌, map, String, string_bytes, string_cmp, Global, Ordering, Less, Equal, Greater, is_eq, refl, sym, ap, ap₂}
-use Rattle.std.specs.Prelude.{Option, Some, None, option_map, unwrap_or, Result, Ok, Err, OnOk, OnErr, length}
+use Rattle.std.proofs.Common.{◌≡◌, ◌∙◌, ℕ, true, arith, List, [], map, String, string_bytes, string_cmp, Global, Ordering, Less, Equal, Greater, is_eq, refl, sym, ap, ap₂}
+use Rattle.std.specs.Prelude.{Option, Some, None, option_map, unwrap_or, Result, Ok, Err, OnOk, OnErr}
 use Rattle.std.specs.Ordering.{ordering_then}
 use Rattle.std.specs.Option.{option_and_then, option_cmp}
 use Rattle.std.specs.BTreeMap.{BTreeMap, insert_entry, is_at}
@@ -8,7 +8,6 @@ use Rattle.std.specs.Cmp.{IsTotalOrder, on_total, then_total}
 use Rattle.std.specs.Cmp.Lexicographic.{nat_list_cmp_total}
 use Rattle.std.specs.List.Sorted.{IsStrictlySortedBy}
 use Rattle.std.specs.Map.{lookup, set_value}
-use Rattle.std.proofs.lemmas.Bool.{false≢true}
 use Rattle.env_config.specs.declared.properties_key.SectionNames.{SectionNames}
 use Rattle.env_config.specs.Merge.{HoldsSection}
 use Rattle.env_config.specs.Properties.{Groups, Subs, key_at, names_cmp, named_sub, others_in, put_named_sub, put_sub_at, properties_in, spread, sub_at, sub_cmp, subs_in, subs_under}
@@ -16,7 +15,7 @@ use Rattle.env_config.specs.PropertiesKey.{names_of}
 use Rattle.env_config.specs.Raw.{Keeps}
 use Rattle.env_config.specs.Sections.{Key, key_cmp, put_at_key, put_others, put_subs, value_at_key}
 use Rattle.env_config.specs.Texts.{put, text_cmp, value_under}
-use Rattle.env_config.proofs.LowerLemmas.{tied_same}
+use Rattle.env_config.proofs.LowerLemmas.{tied_same, then_first, then_second}
 use Rattle.env_config.proofs.SpreadLemmas.{found_seen, group_at, group_back, group_put, in_group, sorted_seen, through, through_same}
 use Rattle.env_config.proofs.TextsLemmas.{entries_at, entries_put}
 
@@ -33,16 +32,6 @@ part_cmp part other = ordering_then (text_cmp part.0 other.0) (sub_cmp part.1 ot
 
 pub names_total : IsTotalOrder names_cmp
 names_total = then_total (on_total (λ (names : List ℕ × List ℕ). names.0) nat_list_cmp_total) (on_total (λ (names : List ℕ × List ℕ). names.1) nat_list_cmp_total)
-
-then_first : (a b : Ordering) → is_eq (ordering_then a b) ≡ true → is_eq a ≡ true
-then_first Equal b is = refl
-then_first Less b is = is
-then_first Greater b is = is
-
-then_second : (a b : Ordering) → is_eq (ordering_then a b) ≡ true → is_eq b ≡ true
-then_second Equal b is = is
-then_second Less b is = absurd (false≢true is)
-then_second Greater b is = absurd (false≢true is)
 
 names_same : (a c : List ℕ × List ℕ) → is_eq (names_cmp a c) ≡ true → a ≡ c
 names_same a c is =
@@ -229,10 +218,6 @@ on_ok P Q (Err e) more is = is
 pub on_err : {X E : Type 0} (P Q : Type 0) (result : Result X E) → (P → Q) → OnErr result P → OnErr result Q
 on_err P Q (Ok x) more is = is
 on_err P Q (Err e) more is = more is
-
-pub no_entries : {X : Type 0} (es : List X) → length es ≡ 0 → es ≡ []
-no_entries [] is = refl
-no_entries (e ∷ es) is = absurd (omega arith)
 
 -- the sub-properties of a property were put, and those of the section with them
 pub filled : (whole : List (List ℕ × Subs) → List (Key × List ℕ)) (prefix name : List ℕ) → HoldsSection whole prefix name → (keeps : Keeps) (view now : List (List ℕ × Subs)) (key : List ℕ) (before after : Subs) (pieces : List (List ℕ))

@@ -201,7 +201,7 @@ ok_same : {X E : Type 0} (r : Result X E) (x y : X) → r ≡ Ok x → r ≡ Ok 
 ok_same r x y one other = cc
 
 -- files go on where the files before them end
-files_go_on : (s before : Sections) (files more : List FileText) → files_from everything s files ≡ Ok before → files_from everything s (files ++ more) ≡ files_from everything before more
+pub files_go_on : (s before : Sections) (files more : List FileText) → files_from everything s files ≡ Ok before → files_from everything s (files ++ more) ≡ files_from everything before more
 files_go_on s before [] more is = ap (λ (x : Sections). files_from everything x more) (ok_same (files_from everything s []) s before refl is)
 files_go_on s before (file ∷ files) more is = by (raw everything file.contents) (λ next over. files_go_on next before files more over) is
   where

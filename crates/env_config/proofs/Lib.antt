@@ -28,4 +28,5 @@ pub mod SelectedLemmas
 pub mod SectionLemmas
 pub mod SpreadLemmas
 pub mod FewLemmas
+pub mod FilesLemmas
 pub mod GroupLemmas

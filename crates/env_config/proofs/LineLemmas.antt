@@ -90,8 +90,3 @@ lines_over (b ∷ rest) none = absurd (omega arith)
 -- a slice from the start
 pub front_range : (text : List ℕ) (n : ℕ) → slice_range text 0 n ≡ take n text
 front_range text n = let same : n - 0 ≡ n = omega arith in ap (λ k. take k text) same
-
--- what stands in a reference, or else in another
-pub now_or : (r : Option (Bor (List ℕ))) (other : Bor (List ℕ)) → (unwrap_or r other).now ≡ unwrap_or (option_copied r) other.now
-now_or None other = refl
-now_or (Some r) other = refl

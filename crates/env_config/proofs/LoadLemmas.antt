@@ -1,11 +1,11 @@
 -- The texts of files, read one after the other, and paths with the home directory in them.
-use Rattle.std.proofs.Common.{◌≡◌, ℕ, Bool, cond, List, [], ◌∷◌, ◌++◌, refl, sym, ap, subst, append_assoc, append-nil, inr}
+use Rattle.std.proofs.Common.{◌≡◌, ℕ, Bool, cond, List, [], ◌++◌, refl, sym, ap, subst, append-nil}
 use Rattle.std.specs.Prelude.{IsUtf8, Option, Result}
 use Rattle.std.specs.Global.{Vec}
 use Rattle.smithy_core.specs.declared.outside.disk.DiskError.{DiskError}
 use Rattle.smithy_core.proofs.TextLemmas.{is_text, no_text}
 use Rattle.env_config.specs.Files.{Place}
-use Rattle.env_config.specs.Loading.{Loaded, ReadsPlace, StopsAtFile, utf8_or_empty}
+use Rattle.env_config.specs.Loading.{Loaded, StopsAtFile, utf8_or_empty}
 use Rattle.env_config.specs.Sections.{FileText}
 
 -- ## Texts
@@ -26,15 +26,6 @@ module _ {D : Type 0} (answers : D → List ℕ → Result (Vec ℕ) DiskError �
 
   pub read_none : ReadSoFar all before []
   read_none = record { texts = λ now others loaded. loaded; unread = λ now path stops. stops }
-
-  pub read_one : (place : Place) (places : List Place) (between now : D) (read : List FileText) (file : FileText) → ReadSoFar (place ∷ places) between read → ReadsPlace answers faults files env place between now file
-      → ReadSoFar places now (read ++ file ∷ [])
-  read_one place places between now read file so_far reads = record {
-    texts = λ last others loaded.
-        let P : List FileText → Type 0 = λ texts. Loaded answers faults files env all before last texts in
-        subst P (sym (append_assoc read (file ∷ []) others)) (so_far.texts last (file ∷ others) (now, file, others, reads, loaded, refl));
-    unread = λ last path stops. so_far.unread last path (inr (now, file, reads, stops));
-  }
 
   -- after the last file
   pub read_all : (places : List Place) (now : D) (read : List FileText) → ReadSoFar places now read → places ≡ [] → Loaded answers faults files env all before now read

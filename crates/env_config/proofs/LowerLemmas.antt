@@ -1,12 +1,13 @@
 -- The keys of parsed files are in lower case.
-use Rattle.std.proofs.Common.{◌≡◌, ℕ, ◌+◌, Bool, true, false, cond, List, [], ◌∷◌, Ordering, Less, Equal, Greater, is_eq, refl, sym, ap, ap₂, subst, ◌∙◌}
+use Rattle.std.proofs.Common.{◌≡◌, ℕ, ◌+◌, Bool, true, false, cond, List, [], ◌∷◌, Ordering, Less, Equal, Greater, is_eq, refl, sym, ap, subst, ◌∙◌}
 use Rattle.std.specs.Prelude.{Option, Some, None, unwrap_or, Result, Ok, Err, bytes_eq, codes, nat_eq, slice_index}
 use Rattle.std.specs.Option.{option_and_then}
-use Rattle.std.specs.Ordering.{match_ordering}
+use Rattle.std.specs.Ordering.{match_ordering, ordering_then}
 use Rattle.std.proofs.lemmas.Map.Text.{is_eq-slice_cmp}
 use Rattle.std.proofs.lemmas.Slice.Eq.{bytes_eq-Decides}
-use Rattle.std.proofs.lemmas.Str.Ascii.{lowercase-lowercase}
+use Rattle.std.proofs.lemmas.Bool.{false≢true}
 use Rattle.smithy_core.specs.TextPairs.{lower}
+use Rattle.smithy_core.proofs.LowerLemmas.{lower_lower}
 use Rattle.env_config.specs.declared.line.PropertyFault.{PropertyFault}
 use Rattle.env_config.specs.declared.line.PropertyFault.TheVariants.{NoEquals, NoName}
 use Rattle.env_config.specs.declared.source.EnvConfigFileKind.{EnvConfigFileKind}
@@ -21,13 +22,19 @@ use Rattle.env_config.specs.Texts.{EachValue, Named, put, text_cmp, value_under}
 abbrev pub IsLower : List ℕ → Type 0
 IsLower key = lower key ≡ key
 
-pub lower_lower : (text : List ℕ) → IsLower (lower text)
-lower_lower [] = refl
-lower_lower (b ∷ text) = ap₂ (λ (c : ℕ) (cs : List ℕ). c ∷ cs) (lowercase-lowercase b) (lower_lower text)
-
 -- texts that are tied are the same
 pub tied_same : (a b : List ℕ) → is_eq (text_cmp a b) ≡ true → a ≡ b
 tied_same a b tied = (bytes_eq-Decides a b).0 (sym (is_eq-slice_cmp a b) ∙ tied)
+
+pub then_first : (a b : Ordering) → is_eq (ordering_then a b) ≡ true → is_eq a ≡ true
+then_first Equal b is = refl
+then_first Less b is = is
+then_first Greater b is = is
+
+pub then_second : (a b : Ordering) → is_eq (ordering_then a b) ≡ true → is_eq b ≡ true
+then_second Equal b is = is
+then_second Less b is = absurd (false≢true is)
+then_second Greater b is = absurd (false≢true is)
 
 pub either : {X : Type 0} (P : X → Type 0) (b : Bool) (x y : X) → P x → P y → P (cond b x y)
 either P true x y here there = here

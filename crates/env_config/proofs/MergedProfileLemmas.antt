@@ -4,16 +4,14 @@ use Rattle.std.specs.Prelude.{Option, Some, None, is_some, unwrap_or, option_map
 use Rattle.std.specs.Option.{option_or}
 use Rattle.std.specs.List.{AllByRecursion}
 use Rattle.std.proofs.Common.{Less}
-use Rattle.std.proofs.lemmas.Bool.{false≢true}
+use Rattle.std.proofs.lemmas.Bool.{false≢true, and_parts}
 use Rattle.std.proofs.lemmas.Slice.Eq.{bytes_eq-Decides}
 use Rattle.env_config.specs.declared.heading.HeadingForm.{HeadingForm}
 use Rattle.env_config.specs.declared.heading.HeadingForm.TheVariants.{Bare, Prefixed}
 use Rattle.env_config.specs.declared.parse_fault.ParseFault.{ParseFault}
 use Rattle.env_config.specs.declared.parse_fault.ParseFault.TheVariants.{Parse, NoMemory}
-use Rattle.env_config.specs.declared.sections.EnvConfigSections.{EnvConfigSections}
 use Rattle.env_config.specs.declared.source.EnvConfigFileKind.{EnvConfigFileKind}
 use Rattle.env_config.specs.declared.source.EnvConfigFileKind.TheVariants.{Config, Credentials}
-use Rattle.env_config.specs.EnvConfigSections.{IsLineFault, sections_of, selected_of}
 use Rattle.env_config.specs.Kept.{has_heading}
 use Rattle.env_config.specs.Latest.{Latest, form_of, group_of, group_taken, taken_values, values_in, without_places}
 use Rattle.env_config.specs.Laws.{value_in}
@@ -21,7 +19,7 @@ use Rattle.env_config.specs.MergedProfile.{HasSame, MergesProfile, ParsesProfile
 use Rattle.env_config.specs.Order.{IsRising}
 use Rattle.env_config.specs.ProfileSink.{IsLatest, ReadsLatest, is_in, latest_of, place_in, value_in_group}
 use Rattle.env_config.specs.Raw.{Keeps, properties_of, raw}
-use Rattle.env_config.specs.Sections.{FaultyLine, FileText, Heading, Sections, after_file, files_from, has_profile_default, heading_of, is_default, is_identifier, is_profile_default, is_taken_from, no_sections, with_file, with_names, with_raw, with_section}
+use Rattle.env_config.specs.Sections.{FaultyLine, FileText, Heading, Sections, after_file, files_from, has_profile_default, heading_of, is_default, is_identifier, is_profile_default, is_taken_from, with_file, with_names, with_raw, with_section}
 use Rattle.env_config.specs.Texts.{Named, text_cmp, value_under}
 use Rattle.env_config.proofs.NarrowMergeLemmas.{merged_gives, over, profile_gives}
 use Rattle.env_config.proofs.TextsLemmas.{entries_at}
@@ -117,14 +115,6 @@ taken_is Config overridden profile (Some prefix) told = by (is_default profile) 
     by false o true told = refl
     by false o false told = refl
 
-and_first : (a b : Bool) → (a && b) ≡ true → a ≡ true
-and_first true b is = refl
-and_first false b is = is
-
-and_second : (a b : Bool) → (a && b) ≡ true → b ≡ true
-and_second true b is = is
-and_second false b is = absurd (false≢true is)
-
 -- a section of the profile is taken where its group is
 heading_taken : (kind : EnvConfigFileKind) (overridden : Bool) (profile : List ℕ) (heading : Heading) → (is_profile_default heading.prefix heading.name ≡ true → overridden ≡ true) → (found : Option (List ℕ))
     → cond (is_taken_from kind overridden heading.prefix heading.name) (cond (has_heading (codes "profile") profile heading) found None) None ≡ cond (picks (group_taken kind overridden profile) (group_of profile heading)) found None
@@ -144,8 +134,9 @@ heading_taken kind overridden profile heading told found = by (has_heading (code
         nothing (is_taken_from kind overridden heading.prefix heading.name)
         ∙ sym (ap (λ (b : Bool). cond b found None) (never (group_taken kind overridden profile)))
     by true is =
-        let named : heading.name ≡ profile = (bytes_eq-Decides heading.name profile).0 (and_second (bytes_eq (unwrap_or heading.prefix (codes "profile")) (codes "profile")) (bytes_eq heading.name profile) is) in
-        let prefixed = and_first (bytes_eq (unwrap_or heading.prefix (codes "profile")) (codes "profile")) (bytes_eq heading.name profile) is in
+        let both = and_parts (bytes_eq (unwrap_or heading.prefix (codes "profile")) (codes "profile")) (bytes_eq heading.name profile) is in
+        let named : heading.name ≡ profile = (bytes_eq-Decides heading.name profile).0 both.1 in
+        let prefixed = both.0 in
         ap (λ (name : List ℕ). cond (is_taken_from kind overridden heading.prefix name) found None) named
         ∙ ap (λ (b : Bool). cond b found None)
         (taken_is kind overridden profile heading.prefix (λ some default. told (default_told heading.prefix prefixed some (ap is_default named ∙ default))))
@@ -228,21 +219,11 @@ profile_merged keeps profile (Ok sections) file latest before now reads is =
     λ all same. subst (HasSame keeps profile (with_file keeps all file.kind sections)) (sym is) (file_taken keeps file.kind profile latest sections all before reads same)
 profile_merged keeps profile (Err fault) file latest before now reads is = reads
 
--- a faulty line is told
-pub line_told : (keeps : Keeps) (profile : List ℕ) (read : Result (Named (List (List ℕ × List ℕ))) (ℕ × List ℕ)) (file : FileText) (before now : Sections) (number : ℕ) (message : List ℕ) (fault : ParseFault) → read ≡ Err (number, message)
-    → IsLineFault file number message fault → MergesProfile keeps profile read file before now (Err fault)
-line_told keeps profile read file before now number message (Parse error) is tells =
-    λ others. ap (after_file file others) is ∙ ap (λ (line : FaultyLine). Err line) (sym tells)
-line_told keeps profile read file before now number message NoMemory is tells = tt
-
 -- the files to come give what all files give, and what was merged has the profile's values
 pub record FilesFollow (keeps : Keeps) (profile : List ℕ) (some : Sections) (files : List FileText) (read : Result Sections FaultyLine) : Type 0 where
   pub all : Sections
   pub same : HasSame keeps profile all some
   pub to_come : files_from keeps all files ≡ read
-
-pub files_begin : (keeps : Keeps) (profile : List ℕ) (some : Sections) (files : List FileText) → some ≡ no_sections → FilesFollow keeps profile some files (files_from keeps no_sections files)
-files_begin keeps profile some files is = record { all = no_sections; same = λ key kept. ap (λ (s : Sections). value_in s.profiles profile key) is; to_come = refl }
 
 pub file_follows : (keeps : Keeps) (profile called : List ℕ) (before now : Sections) (file : FileText) (files : List FileText) (read : Result Sections FaultyLine) → called ≡ profile → FilesFollow keeps profile before (file ∷ files) read
     → MergesProfile keeps called (raw keeps file.contents) file before now (Ok tt) → FilesFollow keeps profile now files read
@@ -258,7 +239,3 @@ pub file_fails : (keeps : Keeps) (profile called : List ℕ) (before now : Secti
     → MergesProfile keeps called (raw keeps file.contents) file before now (Err fault) → ParsesProfile keeps read profile (Err fault)
 file_fails keeps profile called before now file files read (Parse error) follows merges = sym follows.to_come ∙ merges (λ read. files_from keeps (with_file keeps follows.all file.kind read) files)
 file_fails keeps profile called before now file files read NoMemory follows merges = tt
-
-pub files_done : (keeps : Keeps) (profile : List ℕ) (some : EnvConfigSections) (read : Result Sections FaultyLine) (files : List FileText) → files ≡ [] → FilesFollow keeps profile (sections_of some) files read → selected_of some ≡ profile → ParsesProfile keeps read profile (Ok some)
-files_done keeps profile some read files none follows selected =
-    subst (λ (r : Result Sections FaultyLine). ParsesProfile keeps r profile (Ok some)) (sym (ap (files_from keeps follows.all) none) ∙ follows.to_come) (follows.same, selected)

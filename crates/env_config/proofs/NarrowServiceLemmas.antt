@@ -1,5 +1,5 @@
 -- What is kept of the texts gives the sub-properties of a services section that all of them give.
-use Rattle.std.proofs.Common.{◌≡◌, ℕ, Bool, true, false, cond, ◌&&◌, List, [], ◌∷◌, Ordering, Less, Equal, Greater, is_eq, refl, sym, ap, ap₂, ◌∙◌}
+use Rattle.std.proofs.Common.{◌≡◌, ℕ, Bool, true, false, cond, ◌&&◌, List, [], ◌∷◌, Ordering, is_eq, refl, sym, ap, ap₂, ◌∙◌}
 use Rattle.std.specs.Prelude.{Option, Some, None, bytes_eq, codes, length, nat_lt}
 use Rattle.std.specs.List.{after_first, before_first, filter, position_or_len}
 use Rattle.std.specs.Ordering.{ordering_then}
@@ -15,21 +15,11 @@ use Rattle.env_config.specs.Raw.{Keeps, everything, properties_of}
 use Rattle.env_config.specs.Sections.{Heading, Key, Sections, has_profile_default, heading_of, is_identifier, is_taken_from, key_cmp, merged_into, put_at_key, put_others, put_sub, put_subs, value_at_key, value_pieces, with_names, with_raw, with_section}
 use Rattle.env_config.specs.Texts.{Named, text_cmp, value_under}
 use Rattle.env_config.proofs.LaterLemmas.{at_put, key_total}
-use Rattle.env_config.proofs.LowerLemmas.{tied_same}
+use Rattle.env_config.proofs.LowerLemmas.{tied_same, then_first, then_second}
 use Rattle.env_config.proofs.NarrowLemmas.{none_above}
 use Rattle.env_config.proofs.NarrowMergeLemmas.{IsKeptValue, tied_is, with_kept_names}
 
 -- ## Keys
-
-then_first : (a b : Ordering) → is_eq (ordering_then a b) ≡ true → is_eq a ≡ true
-then_first Equal b is = refl
-then_first Less b is = is
-then_first Greater b is = is
-
-then_second : (a b : Ordering) → is_eq (ordering_then a b) ≡ true → is_eq b ≡ true
-then_second Equal b is = is
-then_second Less b is = absurd (false≢true is)
-then_second Greater b is = absurd (false≢true is)
 
 -- the order of the parts behind the first one, and behind the second
 abbrev behind_names : Key → Key → Ordering

@@ -16,13 +16,6 @@ abbrev pub CutsAtFirst : List ℕ → Option Both → Type 0
 CutsAtFirst text None = position_or_len is_equals text ≡ length text
 CutsAtFirst text (Some both) = (position_or_len is_equals text < length text) × (both.0.now ≡ before_first is_equals text) × (both.1.now ≡ after_first is_equals text)
 
--- a text with no `=` has no pair
-pub no_pair : (text : List ℕ) → position_or_len is_equals text ≡ length text → one_pair text ≡ []
-no_pair text none = ap (λ (b : Bool). cond b ((before_first is_equals text, after_first is_equals text) ∷ []) []) (over (position_or_len is_equals text) (length text) none)
-  where
-    over : (m n : ℕ) → m ≡ n → nat_lt m n ≡ false
-    over m n same = grind arith
-
 -- the pair that the text is cut into
 pub cut_pair : (text key value : List ℕ) → position_or_len is_equals text < length text → key ≡ before_first is_equals text → value ≡ after_first is_equals text → one_pair text ≡ (key, value) ∷ []
 cut_pair text key value within key_is value_is =
@@ -78,6 +71,3 @@ pub put_over_one : (text key : List ℕ) (both : Both) → CutsAtFirst text (Som
 put_over_one text key both cut same value =
     ap (λ (pairs : List (List ℕ × List ℕ)). put pairs key value) (cut_pair text key both.1.now cut.0 (sym same ∙ cut.1) cut.2)
     ∙ ap (λ o. match_ordering o ((key, value) ∷ (key, both.1.now) ∷ []) ((key, value) ∷ []) ((key, both.1.now) ∷ (key, value) ∷ [])) (itself key)
-
-pub put_on_none : (text key : List ℕ) → position_or_len is_equals text ≡ length text → (value : List ℕ) → put (one_pair text) key value ≡ (key, value) ∷ []
-put_on_none text key none value = ap (λ (pairs : List (List ℕ × List ℕ)). put pairs key value) (no_pair text none)

@@ -1,5 +1,5 @@
 -- A reader goes on with what all lines give.
-use Rattle.std.proofs.Common.{◌≡◌, ℕ, ◌+◌, Bool, true, false, cond, ◌&&◌, List, [], ◌∷◌, refl, sym, ap, ap₂, subst, ◌∙◌}
+use Rattle.std.proofs.Common.{◌≡◌, ℕ, ◌+◌, Bool, true, false, cond, List, [], ◌∷◌, refl, sym, ap, ap₂, subst, ◌∙◌}
 use Rattle.std.specs.Prelude.{Option, Some, None, option_map, Result, Ok, Err, OnOk, codes}
 use Rattle.std.proofs.lemmas.Bool.{false≢true}
 use Rattle.env_config.specs.declared.fault.GrammarFault.{GrammarFault}
@@ -9,9 +9,9 @@ use Rattle.env_config.specs.declared.reader.OpenSection.{OpenSection}
 use Rattle.env_config.specs.declared.reader.Reader.{Reader}
 use Rattle.env_config.specs.Fault.{flaw_message, numbered}
 use Rattle.env_config.specs.LastProperty.{TakesStep, last_of}
-use Rattle.env_config.specs.Raw.{Keeps, Last, Open, State, after_line, continued, continued_or, last_step, opened, profile_line_step, properties_of, put_property, put_section, raw_from, start, with_last, within_section}
+use Rattle.env_config.specs.Raw.{Keeps, Last, Open, State, after_line, continued, continued_or, last_step, opened, profile_line_step, properties_of, put_property, put_section, raw_from, with_last, within_section}
 use Rattle.env_config.specs.Reader.{HandsOn, HasHanded, StandsForLines, ReadsAt, ReadsInto, ReadsSection, ReadsStep, Standing, given_step, with_pending}
-use Rattle.env_config.specs.Texts.{Named, nothing_named, put, put_named}
+use Rattle.env_config.specs.Texts.{Named, put, put_named}
 use Rattle.env_config.proofs.RawLemmas.{key_kept, property_twice, put_over}
 
 module _ {S : Type 0} (Stands : Standing S) (keeps : Keeps) where
@@ -33,19 +33,6 @@ module _ {S : Type 0} (Stands : Standing S) (keeps : Keeps) where
         settled = put_over keeps sections name (put_property keeps before last) (λ properties. properties);
       }
 
-  -- a property that isn't kept
-  pub stays_handed : (name : List ℕ) (is_kept : Bool) (sections : Named (List (List ℕ × List ℕ))) (sink : S) (last : Last) → (is_kept && keeps.key last.key) ≡ false
-      → HandsOn Stands keeps name is_kept sections sink → HandsOn Stands keeps name is_kept (with_pending keeps sections name (Some last)) sink
-  stays_handed name is_kept sections sink last lost hands =
-      subst (λ (now : Named (List (List ℕ × List ℕ))). HandsOn Stands keeps name is_kept now sink)
-      (sym (by (keeps.section name) (keeps.key last.key) hands.settled (sym (ap (λ (b : Bool). b && keeps.key last.key) hands.kept) ∙ lost))) hands
-    where
-      by : (b d : Bool) → cond b (put_named sections name (properties_of sections name)) sections ≡ sections → (b && d) ≡ false
-          → cond b (put_named sections name (cond d (put (properties_of sections name) last.key last.value) (properties_of sections name))) sections ≡ sections
-      by false d settled lost = refl
-      by true false settled lost = settled
-      by true true settled lost = absurd (false≢true (sym lost))
-
   -- ## Sections
 
   section_at : (all : State) (reader : Reader S) (at : OpenSection) → StandsForLines Stands keeps all reader → reader.at ≡ Some at → ReadsSection Stands keeps all reader.sink at
@@ -61,9 +48,6 @@ module _ {S : Type 0} (Stands : Standing S) (keeps : Keeps) where
       let section = section_at all reader at reads is in
       let hands = puts section.name section.sections section.hands in
       record { at = hands.at; stands = subst (Stands sink hands.at) (sym (ap (λ (s : State). s.sections) section.state)) hands.stands }
-
-  pub none_closed : (all : State) (reader : Reader S) → reader.at ≡ None → StandsForLines Stands keeps all reader → HasHanded Stands all.sections reader.sink
-  none_closed all reader is reads = (subst (ReadsAt Stands keeps all reader.sink) is reads).handed
 
   -- a section that is kept is opened
   pub kept_opens : (all : State) (closed now : S) (name : List ℕ) → HasHanded Stands all.sections closed
@@ -192,9 +176,6 @@ module _ {S : Type 0} (Stands : Standing S) (keeps : Keeps) where
     pub all : State
     pub reads : StandsForLines Stands keeps all reader
     pub to_come : raw_from keeps number all lines ≡ read
-
-  pub text_begins : (sink : S) (lines : List (List ℕ)) → Stands sink None nothing_named → TextReads 1 (record { sink = sink; at = None }) lines (raw_from keeps 1 start lines)
-  text_begins sink lines stands = record { all = start; reads = record { none = refl; handed = record { at = None; stands = stands } }; to_come = refl }
 
   pub line_reads : (number : ℕ) (reader now : Reader S) (text : List ℕ) (lines : List (List ℕ)) (read : Result (Named (List (List ℕ × List ℕ))) (ℕ × List ℕ)) → TextReads number reader (text ∷ lines) read
       → ((all : State) → StandsForLines Stands keeps all reader → ReadsStep Stands keeps (profile_line_step keeps all text) now (Ok tt)) → TextReads (number + 1) now lines read

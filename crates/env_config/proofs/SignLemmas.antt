@@ -13,6 +13,7 @@ use Rattle.std.proofs.lemmas.Str.{NoCharPasses-byte, len_utf8_ascii}
 use Rattle.std.proofs.lemmas.Str.Pattern.{drop_at_char}
 use Rattle.env_config.specs.Line.{is_blank, is_comment_sign, trimmed}
 use Rattle.env_config.specs.Sections.{Heading, heading_of, split_heading}
+use Rattle.env_config.proofs.TrimLemmas.{blank_small}
 
 module _ (signs : List ℕ) (small : (c : ℕ) → char_set_contains signs c ≡ true → c < 128) where
   -- what the pattern of the signs finds in a text
@@ -57,9 +58,6 @@ module _ (signs : List ℕ) (small : (c : ℕ) → char_set_contains signs c ≡
 
 pub comment_small : (c : ℕ) → is_comment_sign c ≡ true → c < 128
 comment_small c is = grind (arith, nat_tests)
-
-pub blank_small : (c : ℕ) → is_blank c ≡ true → c < 128
-blank_small c is = grind (arith, nat_tests)
 
 abbrev pub blanks : List ℕ
 blanks = 32 ∷ 9 ∷ []

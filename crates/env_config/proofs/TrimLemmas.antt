@@ -23,7 +23,7 @@ blank_cases c is =
       | inr e ↦ elim (or_cases (eqb 9 c) false e) [ inl f ↦ inr (sym (eqb-true 9 c f)) | inr f ↦ absurd (false≢true f) ]
     ]
 
-blank_small : (c : ℕ) → is_blank c ≡ true → c < 128
+pub blank_small : (c : ℕ) → is_blank c ≡ true → c < 128
 blank_small c is = elim (blank_cases c is) [ inl e ↦ omega arith | inr e ↦ omega arith ]
 
 blank_scalar : (c : ℕ) → is_blank c ≡ true → IsScalar c

@@ -6,6 +6,7 @@ use Rattle.smithy_core.specs.declared.outside.frame_part.FramePart.{FramePart}
 use Rattle.smithy_core.specs.declared.outside.frame_source.FrameSource as FrameSource
 use Rattle.smithy_core.specs.declared.raw_message.RawMessage.TheVariants.{Decoded, Invalid}
 use Rattle.smithy_core.specs.declared.sdk_error.SdkError.TheVariants.{ConstructionFailure, DispatchFailure, NoMemory, ResponseError, ServiceError}
+use Rattle.smithy_core.proofs.OutsideLemmas.{rose_before}
 use Rattle.eventstream.specs.Decode.{IsUnfinished}
 use Rattle.eventstream.specs.Reading.{Begin, begins, first_of, nothing}
 use Rattle.eventstream.specs.Unmarshall.{PassesMessage}
@@ -25,7 +26,7 @@ use Rattle.event_io.specs.declared.receiver.Receiver.{Receiver}
 use Rattle.event_io.specs.declared.response_fault.ResponseFault.TheVariants.{Frame, UnexpectedEndOfStream, Unmarshall, Preprocessor}
 use Rattle.event_io.specs.declared.stop.Stop.{Stop}
 use Rattle.event_io.specs.declared.stop.Stop.TheVariants as stop
-use Rattle.event_io.proofs.ReceiverLemmas.{idle_more, joined, rose_before, takes_more, takes_none}
+use Rattle.event_io.proofs.ReceiverLemmas.{idle_more, joined, takes_more, takes_none}
 
 -- ## What the rest begins with
 

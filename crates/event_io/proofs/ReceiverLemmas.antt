@@ -1,11 +1,11 @@
 -- How a receiver takes frames, and what the bytes that it has taken hold.
-use Rattle.std.proofs.Common.{◌≡◌, ◌⊎◌, inl, inr, ℕ, zero, suc, ◌+◌, ◌<◌, ◌≤◌, ◌==◌, ◌||◌, Bool, true, false, if◌then◌else◌, List, [], ◌∷◌, ◌++◌, length, take, drop, Option, Some, None, Result, Ok, Err, ap, refl, sym, subst, ◌∙◌, append-nil, append_assoc, length-append, arith}
+use Rattle.std.proofs.Common.{◌≡◌, ◌⊎◌, inl, inr, ℕ, zero, suc, ◌+◌, ◌<◌, ◌≤◌, ◌==◌, ◌||◌, Bool, true, false, if◌then◌else◌, List, [], ◌∷◌, ◌++◌, length, take, drop, Option, Some, None, Result, Ok, Err, ap, refl, sym, subst, ◌∙◌, append-nil, append_assoc, arith}
 use Rattle.std.proofs.lemmas.Bool.{cases_lt, eqb-false, eqb-true, ne_eqb}
 use Rattle.std.proofs.lemmas.Grind.{flat_map-append}
 use Rattle.std.proofs.lemmas.List.Sums.{sum_by-append}
+use Rattle.std.proofs.lemmas.List.{nil_from_length}
 use Rattle.smithy_core.specs.FrameSource.{IsDrained, TakesFrame}
 use Rattle.smithy_core.specs.Message.{Parts}
-use Rattle.smithy_core.specs.Outside.{RoseOrStands}
 use Rattle.smithy_core.specs.declared.outside.frame_part.FramePart.{FramePart}
 use Rattle.smithy_core.specs.declared.outside.frame_source.FrameSource as FrameSource
 use Rattle.eventstream.specs.Decode.{IsUnfinished, PeeksMessage}
@@ -22,6 +22,7 @@ use Rattle.event_io.specs.ResponseFault.{is_want_kind}
 use Rattle.event_io.specs.Stop.{NamesStopWant, stop_of}
 use Rattle.smithy_core.specs.declared.raw_message.RawMessage.TheVariants.{Decoded, Invalid}
 use Rattle.smithy_core.specs.declared.sdk_error.SdkError.TheVariants.{ConstructionFailure, DispatchFailure, NoMemory, ResponseError, ServiceError}
+use Rattle.smithy_core.proofs.OutsideLemmas.{rose_before}
 use Rattle.eventstream.specs.declared.unmarshall.UnmarshallMessage as UnmarshallMessage
 use Rattle.event_io.specs.declared.received.Received.{Received}
 use Rattle.event_io.specs.declared.received.Received.TheVariants as received
@@ -68,16 +69,7 @@ takes_more frames more (Some left) (Some middle) (Some rest) first second = firs
 pub idle_more : (frames more : List FramePart) → idle_count (frames ++ more) ≡ idle_count frames + idle_count more
 idle_more frames more = sum_by-append one_if_idle frames more
 
--- a count that rose later rose since
-pub rose_before : (before between now : ℕ) → before ≤ between → RoseOrStands between now → RoseOrStands before now
-rose_before before between now less (inl rose) = inl (omega arith)
-rose_before before between now less (inr stands) = inr stands
-
 -- ## Bytes
-
-none_is : (bytes : List ℕ) → length bytes ≡ 0 → bytes ≡ []
-none_is [] is = refl
-none_is (byte ∷ bytes) is = absurd (omega arith)
 
 -- a frame counts as one without data, or has some
 idle_is : (frame : FramePart) → ((one_if_idle frame ≡ 1) × (data_in frame ≡ [])) ⊎ ((one_if_idle frame ≡ 0) × (0 < length (data_in frame)))
@@ -85,7 +77,7 @@ idle_is frame = by (length (data_in frame) == 0) refl
   where
     by : (none : Bool) → (length (data_in frame) == 0) ≡ none
         → ((one_if_idle frame ≡ 1) × (data_in frame ≡ [])) ⊎ ((one_if_idle frame ≡ 0) × (0 < length (data_in frame)))
-    by true is = inl (rw is refl, none_is (data_in frame) (eqb-true _ _ is))
+    by true is = inl (rw is refl, nil_from_length (data_in frame) (eqb-true _ _ is))
     by false is = let some : length (data_in frame) ≡ 0 → ⊥ = eqb-false _ _ is in inr (rw is refl, by_some (length (data_in frame)) some) where
       by_some : (n : ℕ) → (n ≡ 0 → ⊥) → 0 < n
       by_some zero some = absurd (some refl)
@@ -209,25 +201,7 @@ module _ {F U : Type 0} (source : FrameSource.Ghosts F) where
           inr (subst (λ (bytes : List ℕ). IsUnfinished (first_of bytes)) (sym same) less)
       by (inr (zero_is, some)) = inl (omega (arith, is, zero_is))
 
-  -- a frame counts as one without data or brings bytes
-  pub goes_forward : (between now : Receiver F U) (more : ℕ) → PullsOne source between now (Ok more)
-      → (more ≤ 1) × (length (taken_bytes between) ≤ length (taken_bytes now)) × (length (taken_bytes between) < length (taken_bytes now) + more)
-  goes_forward between now more (frame, pulls, is) = by (idle_is frame)
-    where
-      grown : length (taken_bytes now) ≡ length (taken_bytes between) + length (data_in frame)
-      grown = ap (λ (b : List ℕ). length b) (pulls.bytes ∙ ap (λ (b : List ℕ). taken_bytes between ++ b) (append-nil (data_in frame))) ∙ length-append (taken_bytes between) (data_in frame)
-
-      by : ((one_if_idle frame ≡ 1) × (data_in frame ≡ [])) ⊎ ((one_if_idle frame ≡ 0) × (0 < length (data_in frame)))
-          → (more ≤ 1) × (length (taken_bytes between) ≤ length (taken_bytes now)) × (length (taken_bytes between) < length (taken_bytes now) + more)
-      by (inl (one, none)) = (omega (arith, is, one), omega (arith, grown), omega (arith, grown, is, one))
-      by (inr (zero_is, some)) = (omega (arith, is, zero_is), omega (arith, grown), omega (arith, grown, some))
-
   -- ## How a search ends
-
-  pub front_found : (old now : Receiver F U) (idle : ℕ) (front : Front) → Turned old now idle → idle < most_idle
-      → PeeksMessage (taken_bytes now) (Ok (Some (front.message, front.len))) → PullsFront source old now (Ok front)
-  front_found old now idle front turned few peeks =
-      record { frames = turned.frames; pulls = turned.pulls; found = peeks; cause = tt; turns = omega (arith, turned.counted) }
 
   pub front_faulty : (old now : Receiver F U) (idle : ℕ) (error : Error) → Turned old now idle → idle < most_idle
       → PeeksMessage (taken_bytes now) (Err error) → PullsFront source old now (Err (stop_of error))
@@ -267,31 +241,7 @@ module _ {F U : Type 0} (source : FrameSource.Ghosts F) where
       earlier stop.NoMemory cause = tt
       earlier (stop.Faulty error) cause = tt
 
-  pub front_gives_up : (old now : Receiver F U) (idle : ℕ) → Turned old now idle → most_idle ≤ idle → PullsFront source old now (Err stop.OutOfTurns)
-  front_gives_up old now idle turned many =
-      record {
-        frames = turned.frames;
-        pulls = turned.pulls;
-        found = (by turned.unfinished, tt);
-        cause = tt;
-        turns = omega (arith, turned.counted, turned.within);
-      }
-    where
-      by : (idle < most_idle) ⊎ IsUnfinished (first_of (taken_bytes now)) → IsUnfinished (first_of (taken_bytes now))
-      by (inl few) = absurd (omega arith)
-      by (inr less) = less
-
   -- ## What a call reads
-
-  -- no message is there
-  pub reads_stop : (said : Parts → Type 0) (old new : Receiver F U) (why : Stop) → PullsFront source old new (Err why) → Reads source (Some why) said old new
-  reads_stop said old new why pulls = record {
-    frames = pulls.frames;
-    taken = pulls.pulls.taken;
-    found = (subst (StopsAt why) pulls.pulls.bytes pulls.found.0, pulls.pulls.bytes);
-    cause = pulls.cause;
-    turns = pulls.turns;
-  }
 
   -- a message is there, and stays
   pub reads_want : (said : Parts → Type 0) (old new : Receiver F U) (front : Front) → PullsFront source old new (Ok front) → Reads source (Some stop.NoMemory) said old new
@@ -308,22 +258,6 @@ module _ {F U : Type 0} (source : FrameSource.Ghosts F) where
     cause = tt;
     turns = pulls.turns;
   }
-
--- what is said of a message is no reason for none
-pub said_no_stop : {U T E : Type 0} (unmarshaller : UnmarshallMessage.Ghosts U T E) (by : U) (message : Parts) (result : Result (Received T) (ReceiveError E))
-    → Unmarshals unmarshaller by message result → recv_stop result ≡ None
-said_no_stop unmarshaller by message (Ok (received.Event event)) says = refl
-said_no_stop unmarshaller by message (Ok received.End) says = absurd says
-said_no_stop unmarshaller by message (Ok received.NotYet) says = absurd says
-said_no_stop unmarshaller by message (Ok received.OutOfTurns) says = absurd says
-said_no_stop unmarshaller by message (Err (ConstructionFailure refusal)) says = absurd says
-said_no_stop unmarshaller by message (Err DispatchFailure) says = absurd says
-said_no_stop unmarshaller by message (Err NoMemory) says = absurd says
-said_no_stop unmarshaller by message (Err (ServiceError error raw)) says = refl
-said_no_stop unmarshaller by message (Err (ResponseError (Frame error) raw)) says = absurd says
-said_no_stop unmarshaller by message (Err (ResponseError (UnexpectedEndOfStream end) raw)) says = absurd says
-said_no_stop unmarshaller by message (Err (ResponseError (Unmarshall error) raw)) says = refl
-said_no_stop unmarshaller by message (Err (ResponseError (Preprocessor error) raw)) says = absurd says
 
 -- nor is what a preprocessor answered for it
 tried_no_stop : {M E : Type 0} (answers : Parts → Result (Parts × M) Error → Type 0) (kind : InitialMessageType) (message : Parts) (result : Result (Tried M) (ReceiveError E))

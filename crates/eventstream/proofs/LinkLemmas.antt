@@ -1,8 +1,14 @@
 -- A signed message has a frame.
-use Rattle.std.proofs.Common.{◌≡◌, ℕ, ◌+◌, ◌≤◌, List, [], ◌∷◌, ◌++◌, length, None, Option, nat_lt, false, refl, ap, ◌∙◌, arith, pos, negsuc, ℤ, ◌*ℤ◌, ◌+ℤ◌, ◌≤ℤ◌, length-append, append-nil, codes}
+use Rattle.std.proofs.Common.{◌≡◌, ℕ, ◌+◌, ◌≤◌, List, [], ◌∷◌, ◌++◌, length, None, Option, nat_lt, false, refl, ap, ◌∙◌, arith, pos, negsuc, ℤ, ◌*ℤ◌, ◌+ℤ◌, ◌≤ℤ◌, length-append, append-nil, codes, Bool, true, ◌&&◌}
 use Rattle.std.specs.Option.{option_or}
 use Rattle.std.specs.Int.{w64, saturate_signed}
 use Rattle.std.proofs.lemmas.Bool.Decides.{nat_tests}
+use Rattle.std.specs.List.{AllByRecursion}
+use Rattle.std.specs.Str.{IsAscii, IsUtf8}
+use Rattle.std.proofs.lemmas.Bool.{and_parts, ltb-true}
+use Rattle.std.proofs.lemmas.Str.{IsUtf8-from_ascii}
+use Rattle.std.proofs.lemmas.Str.Ascii.{IsAscii-cons, IsAscii-nil}
+use Rattle.std.proofs.lemmas.List.Elements.{All-from_recursion}
 use Rattle.sha2.proofs.Facts256.{length-sha256}
 use Rattle.mac_core.specs.Mac.{mac, mac_of_block}
 use Rattle.smithy_core.specs.Civil.{IsInYears}
@@ -13,6 +19,7 @@ use Rattle.eventstream.specs.declared.error.ErrorKind.{ErrorKind}
 use Rattle.eventstream.specs.Frame.{block, frame_len, spelling, unfit_lengths, unframed, unspelled, unspelled_value, value_spelling}
 use Rattle.eventstream.specs.Key.{Signer}
 use Rattle.eventstream.specs.Link.{date_header, link_code, link_message}
+use Rattle.eventstream.specs.Laws.{IsProper, IsProperHeader, floored_message}
 
 -- a code has 32 bytes
 pub length-mac : (key text : List ℕ) → length (mac key text) ≡ 32
@@ -88,3 +95,32 @@ length-link signer signature bytes t =
       length-code_header _ code,
       length-date_header (floor_secs t),
     )
+
+-- ## The message of a link
+
+pub link_payload : (signer : Signer) (signature bytes : List ℕ) (t : Instant) → (link_message signer signature bytes t).payload ≡ bytes
+unfolding link_message
+link_payload signer signature bytes t = refl
+
+-- its moment is in whole seconds
+pub link_floored : (signer : Signer) (signature bytes : List ℕ) (t : Instant) → floored_message (link_message signer signature bytes t) ≡ link_message signer signature bytes t
+unfolding link_message
+link_floored signer signature bytes t = refl
+
+abbrev all_ascii : List ℕ → Bool
+all_ascii [] = true
+all_ascii (byte ∷ bytes) = nat_lt byte 128 && all_ascii bytes
+
+is_name : (bytes : List ℕ) → all_ascii bytes ≡ true → IsUtf8 bytes
+is_name bytes all = IsUtf8-from_ascii bytes (by bytes all)
+  where
+    by : (bytes : List ℕ) → all_ascii bytes ≡ true → IsAscii bytes
+    by [] all = IsAscii-nil
+    by (byte ∷ bytes) all = let parts = and_parts (nat_lt byte 128) (all_ascii bytes) all in IsAscii-cons byte bytes (ltb-true _ _ parts.0) (by bytes parts.1)
+
+pub link_proper : (signer : Signer) (signature bytes : List ℕ) (t : Instant) → IsProper (link_message signer signature bytes t)
+unfolding link_message
+link_proper signer signature bytes t =
+    let both : AllByRecursion IsProperHeader (link_message signer signature bytes t).headers =
+    (record { name = is_name _ refl; value = tt }, (record { name = is_name _ refl; value = omega arith }, tt)) in
+    record { headers = All-from_recursion IsProperHeader (link_message signer signature bytes t).headers both }

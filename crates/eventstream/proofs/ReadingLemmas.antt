@@ -159,7 +159,7 @@ frame_first m more proper none =
 pub frame_read : (m : Parts) (more : List ℕ) → IsProper m → unframed m ≡ None → reading (frame m ++ more) ≡ onto (floored_message m) (reading more)
 frame_read m more proper none = goes_on (frame m ++ more) (floored_message m) more (frame_first m more proper none)
 
-nothing_read : reading [] ≡ record { messages = []; end = nothing }
+pub nothing_read : reading [] ≡ record { messages = []; end = nothing }
 unfolding reading reading_within
 nothing_read = rw nothing_is refl
 

@@ -1,7 +1,6 @@
 -- What a link is signed by, and what is told of it.
 use Rattle.std.proofs.Common.{◌≡◌, ◌⊎◌, ◌&&◌, ℕ, ℤ, Bool, true, ◌*◌, if◌then◌else◌, List, length, Option, Some, None, refl, ap, sym, ◌∙◌, option_map, inl, inr}
 use Rattle.std.specs.Prelude.{Ok, Err}
-use Rattle.std.specs.Borrow.{Bor}
 use Rattle.std.specs.List.{list_all}
 use Rattle.std.specs.Option.{option_or}
 use Rattle.std.specs.Str.{is_utf8}
@@ -9,9 +8,7 @@ use Rattle.hex.proofs.HexLemmas.{length-encode_with}
 use Rattle.hex.specs.Hex.{encode_lower, lower_digits}
 use Rattle.mac_core.specs.Mac.{mac}
 use Rattle.smithy_core.specs.Civil.{is_in_years}
-use Rattle.smithy_core.specs.Identity.{secret_of}
 use Rattle.smithy_core.specs.Moment.{Instant}
-use Rattle.smithy_core.specs.declared.identity.Identity.{Identity}
 use Rattle.eventstream.proofs.LinkLemmas.{length-mac, length-link_code}
 use Rattle.eventstream.specs.Key.{Signer}
 use Rattle.eventstream.specs.Frame.{unframed}
@@ -19,14 +16,12 @@ use Rattle.eventstream.specs.Link.{link_message, link_signature}
 use Rattle.eventstream.specs.declared.error.ErrorKind.{ErrorKind}
 use Rattle.sigv4.specs.Chunk.{chunk_signature, trailer_signature}
 use Rattle.sigv4.specs.EventStream.{failed_encoding}
-use Rattle.sigv4.specs.Params.{params_of, signer_of, v4_time}
 use Rattle.sigv4.specs.Query.{Pair}
 use Rattle.sigv4.specs.Refusal.{unfit_headers}
 use Rattle.sigv4.specs.declared.error.SigningError.{SigningError}
 use Rattle.sigv4.specs.declared.error.SigningError.TheVariants.{NoMemory}
-use Rattle.sigv4.specs.declared.params.SigningParams.{SigningParams as V4Params}
 use Rattle.firuvaik_c.specs.Asked.{is_text_field, moment_at, unless_utf8}
-use Rattle.firuvaik_c.specs.Chunks.{GivesTrailers, lent_trailers, trailers_refusal}
+use Rattle.firuvaik_c.specs.Chunks.{lent_trailers, trailers_refusal}
 use Rattle.firuvaik_c.specs.Events.{GivesLink, GivesNextFrame}
 use Rattle.firuvaik_c.specs.Faults.{beyond_years, frame_fault, fault_of_signing}
 use Rattle.firuvaik_c.specs.Links.{is_text_scope, key_signer, link_over, linkless}
@@ -108,14 +103,3 @@ pub trailers_able : (signer : LentSigner) (seconds : ℤ) (trailers : List Field
     → list_all is_text_field trailers ≡ true → unfit_headers 1 (lent_trailers trailers) ≡ None → trailers_refusal signer seconds trailers before ≡ None
 trailers_able signer seconds trailers before able texts fit =
     none_first (linkless signer seconds before) _ able ∙ unrefused_if (list_all is_text_field trailers) (unfit_headers 1 (lent_trailers trailers)) texts fit
-
--- the first trailer that is no header is
-pub trailers_refused : (signer : LentSigner) (seconds : ℤ) (trailers : List Field) (before : List ℕ) (error : SigningError) (fault : Fault) → linkless signer seconds before ≡ None
-    → list_all is_text_field trailers ≡ true → unfit_headers 1 (lent_trailers trailers) ≡ Some error → fault ≡ fault_of_signing error
-    → GivesTrailers signer seconds trailers before (Err fault)
-trailers_refused signer seconds trailers before error fault able texts unfit is =
-    inl (none_first (linkless signer seconds before) _ able ∙ refused_if (list_all is_text_field trailers) (unfit_headers 1 (lent_trailers trailers)) texts unfit)
-  where
-    refused_if : (are_texts : Bool) (reason : Option SigningError) → are_texts ≡ true → reason ≡ Some error
-        → option_or (unless_utf8 are_texts) (option_map fault_of_signing reason) ≡ Some fault
-    refused_if are_texts reason t u = rw (t, u, is) refl

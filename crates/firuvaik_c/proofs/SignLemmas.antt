@@ -1,10 +1,9 @@
 -- A request of pieces is signed as it was asked for.
-use Rattle.std.proofs.Common.{◌≡◌, ◌&&◌, ◌⊎◌, ℕ, ℤ, Bool, true, false, ◌*◌, nat_lt, map, List, length, Option, Some, None, refl, ap, sym, ◌∙◌, option_map, inl, inr, if◌then◌else◌}
+use Rattle.std.proofs.Common.{◌≡◌, ◌&&◌, ◌⊎◌, ℕ, ℤ, Bool, true, false, ◌*◌, nat_lt, map, List, length, Some, None, refl, ap, ◌∙◌, inl, inr, if◌then◌else◌}
 use Rattle.std.specs.Prelude.{Ok, Err}
 use Rattle.std.specs.Borrow.{Bor}
 use Rattle.std.specs.List.{list_all}
 use Rattle.std.specs.Option.{option_or}
-use Rattle.std.specs.Str.{is_utf8}
 use Rattle.hex.proofs.HexLemmas.{length-encode_with}
 use Rattle.hex.specs.Hex.{lower_digits}
 use Rattle.http_uri.specs.declared.uri.Uri.{Uri}
@@ -13,24 +12,19 @@ use Rattle.smithy_core.specs.Identity.{IsCredentials, secret_of}
 use Rattle.smithy_core.specs.Moment.{Instant}
 use Rattle.smithy_http.specs.QueryWriter.{SpellsNoTarget, SpellsTarget}
 use Rattle.smithy_http.specs.Target.{Target, target_of}
-use Rattle.eventstream.proofs.LinkLemmas.{length-mac, length-link_code}
-use Rattle.eventstream.specs.Key.{Signer}
-use Rattle.eventstream.specs.Frame.{unframed}
-use Rattle.eventstream.specs.Link.{link_message, link_signature}
-use Rattle.eventstream.specs.declared.error.ErrorKind.{ErrorKind}
+use Rattle.eventstream.proofs.LinkLemmas.{length-mac}
 use Rattle.sigv4.specs.Body.{payload_text}
-use Rattle.sigv4.specs.EventStream.{failed_encoding, unsignable}
+use Rattle.sigv4.specs.EventStream.{unsignable}
 use Rattle.sigv4.specs.Instructions.{Instructions}
 use Rattle.sigv4.specs.Parameters.{AppliesTo, takes_no_more}
-use Rattle.sigv4.specs.Params.{params_of, signer_of, v4_time}
+use Rattle.sigv4.specs.Params.{params_of}
 use Rattle.sigv4.specs.Query.{Pair}
-use Rattle.sigv4.specs.Refusal.{request_refusal, unfit, unfit_signed_target}
-use Rattle.sigv4.specs.Request.{Case, identity_of, key_id_of, request_case, token_of}
+use Rattle.sigv4.specs.Refusal.{request_refusal, unfit}
+use Rattle.sigv4.specs.Request.{Case, key_id_of, request_case, token_of}
 use Rattle.sigv4.specs.RequestSigning.{SignsCase}
 use Rattle.sigv4.specs.Signature.{signature}
 use Rattle.sigv4.specs.Settings.{settings_of}
 use Rattle.sigv4.specs.Signed.{instructions, parameters, signature_of, signed_target}
-use Rattle.sigv4.specs.SigningParams.{params_time}
 use Rattle.sigv4.specs.declared.error.SigningError.{SigningError}
 use Rattle.sigv4.specs.declared.error.SigningError.TheVariants.{InvalidUri, MomentOutOfRange, NoMemory}
 use Rattle.smithy_core.specs.declared.identity.Identity.{Identity}
@@ -42,11 +36,11 @@ use Rattle.sigv4.specs.declared.params.SigningParams.{SigningParams as V4Params}
 use Rattle.sigv4.specs.declared.settings.SigningSettings.{SigningSettings}
 use Rattle.sigv4.specs.declared.signing_params.SigningParams.{SigningParams}
 use Rattle.sigv4.specs.declared.signing_params.SigningParams.TheVariants.{V4}
-use Rattle.firuvaik_c.specs.Faults.{beyond_years, frame_fault, fault_of_signing, unknown_flags}
+use Rattle.sigv4.proofs.RefusalLemmas.{not_taken, taken}
+use Rattle.firuvaik_c.specs.Faults.{beyond_years, unknown_flags}
 use Rattle.firuvaik_c.specs.Asked.{are_plain_texts, lent_case, lent_payload, lent_settings, given_text, is_text_field, is_text_keys, is_text_payload, is_text_settings, lent_header, moment_at, unless_utf8, unreadable}
 use Rattle.firuvaik_c.specs.Signing.{RefusesSpelled, SignsPieces, SignsSpelled, http_lines, is_query_params, pieces_case}
 use Rattle.firuvaik_c.specs.declared.answer.Made.{Made}
-use Rattle.firuvaik_c.specs.declared.fault.Fault.{Fault}
 use Rattle.firuvaik_c.specs.declared.lent.Request.{Request}
 use Rattle.firuvaik_c.specs.declared.lent.Settings.{Settings}
 use Rattle.firuvaik_c.specs.declared.lent.Signer.{Signer as LentSigner}
@@ -62,11 +56,6 @@ pub case_made : (texts : PlainTexts) (headers : List Pair) (payload : List ℕ) 
     → signable.method.now ≡ texts.method.now → signable.headers.now ≡ headers → payload_text signable.body ≡ payload
     → request_case signable params ≡ pieces_case texts headers payload params (target_of signable.uri)
 case_made texts headers payload (V4 params) signable method same body = rw (method, same, body) refl
-
--- who signs by parameters signs the case of a request
-pub case_able : (params : SigningParams) (signable : SignableRequest) → unsignable (identity_of params) (params_time params) ≡ None
-    → unsignable (identity_of params) (request_case signable params).at ≡ None
-case_able (V4 params) signable able = able
 
 -- a target that isn't read is refused
 pub unread : (text : List ℕ) (case : Target → Case) (error : SigningError) → (SpellsNoTarget text × (error ≡ InvalidUri)) ⊎ (error ≡ NoMemory)
@@ -101,16 +90,6 @@ able (Token token) t are years = absurd are
 case_target : (texts : PlainTexts) (headers : List Pair) (payload : List ℕ) (params : SigningParams) (target : Target)
     → (pieces_case texts headers payload params target).target ≡ target
 case_target texts headers payload (V4 params) target = refl
-
--- a target takes the parameters of a case exactly where this test passes
-taken : (c : Case) (target : Target) (made : List Pair) → c.target ≡ target → made ≡ parameters c → takes_no_more made target ≡ false → unfit_signed_target c ≡ None
-unfolding unfit_signed_target
-taken c target made is from takes = rw (← from, is, takes) refl
-
-not_taken : (c : Case) (target : Target) (made : List Pair) → c.target ≡ target → made ≡ parameters c → takes_no_more made target ≡ true
-    → unfit_signed_target c ≡ Some InvalidUri
-unfolding unfit_signed_target
-not_taken c target made is from takes = rw (← from, is, takes) refl
 
 -- a target that takes no more parameters is refused
 pub retargeted : (texts : PlainTexts) (headers : List Pair) (payload : List ℕ) (params : SigningParams) (uri : Uri) (text : List ℕ) (made : List Pair) (error : SigningError)

@@ -14,7 +14,7 @@ use Rattle.smithy_core.specs.Moment.{Instant}
 use Rattle.smithy_core.specs.declared.header.HeaderValue.{HeaderValue}
 use Rattle.eventstream.specs.Bind.{◌>>=◌}
 use Rattle.eventstream.specs.Key.{Signer}
-use Rattle.eventstream.specs.Link.{link_code}
+use Rattle.eventstream.specs.Link.{link_code, carried_date}
 use Rattle.eventstream.specs.Read.{announced, checked_message, headers_within, read, read_after, read_frame, read_prelude}
 use Rattle.eventstream.specs.Reading.{as_first, begins, first_of, nothing}
 use Rattle.eventstream.specs.declared.error.ErrorKind.{ErrorKind}
@@ -22,7 +22,7 @@ use Rattle.eventstream.specs.declared.error.ErrorKind.TheVariants.{InvalidMessag
 use Rattle.eventstream.specs.declared.read.lengths.Lengths.{Lengths}
 use Rattle.eventstream.proofs.FrontLemmas.{announced_prelude, first_whole, prelude_told}
 use Rattle.eventstream.proofs.TestLemmas.{bound, ok_same, refused_or}
-use Rattle.chain_watch.specs.Walk.{Passed, carried, carried_code, carried_date, compared, frame_test, inner_event, seed_point, signed_moment, stays, unclosed, walk, walk_frames, walk_onto, walk_passed, walk_tested}
+use Rattle.chain_watch.specs.Walk.{Passed, carried, carried_code, compared, frame_test, inner_event, seed_point, signed_moment, stays, unclosed, walk, walk_frames, walk_onto, walk_passed, walk_tested}
 use Rattle.chain_watch.specs.Watch.{Feeds, Watching, new_watch, state, unwalked}
 use Rattle.chain_watch.specs.declared.chain_fault.ChainFault.{ChainFault}
 use Rattle.chain_watch.specs.declared.chain_fault.ChainFault.TheVariants.{NoMemory, NotChain}

@@ -14,8 +14,8 @@ use Rattle.std.proofs.lemmas.Option.{cond_some}
 use mir.Val.{hbits}
 use Rattle.job_text.specs.Numbers.{is_digit, is_natural, is_negative, number_on, if_fits, number, natural_below, spelled}
 
-own : IsNumeralModel (λ digits. list_all is_digit digits ≡ true) (number_on 0)
-own = numerals_by_fold _ (search rules) number_on (search rules)
+pub numerals : IsNumeralModel (λ digits. list_all is_digit digits ≡ true) (number_on 0)
+numerals = numerals_by_fold _ (search rules) number_on (search rules)
 
 natural_digits : (text : List ℕ) → is_natural text ≡ true → list_all is_digit text ≡ true
 natural_digits [] h = cc
@@ -52,7 +52,7 @@ ok_if_fits w (Err e) P z h fits other = sym (other h)
 natural_parsed : {E : Type 0} (w : Width) (text : List ℕ) (r : Result ℤ E) → ParsesSigned w 10 text r → is_natural text ≡ true → result_ok r ≡ if_fits w (pos (number_on 0 text))
 natural_parsed w text r h natural =
     let some = natural_length text natural in
-    ok_if_fits w r _ _ (parse_signed_digits own w text r h (natural_digits text natural))
+    ok_if_fits w r _ _ (parse_signed_digits numerals w text r h (natural_digits text natural))
     (λ p. fits_pos w (number_on 0 text) p.1) (λ no. fits_not_pos w (number_on 0 text) (λ lt. no (some, lt)))
 
 negative_parsed : {E : Type 0} (w : Width) (text : List ℕ) (r : Result ℤ E) → ParsesSigned w 10 text r → is_negative text ≡ true → result_ok r ≡ if_fits w (neg_ℤ (pos (number_on 0 (drop 1 text))))
@@ -60,7 +60,7 @@ negative_parsed w text r h negative =
     let parts = negative_parts text negative in
     let digits = natural_digits (drop 1 text) parts.1 in
     let some = natural_length (drop 1 text) parts.1 in
-    ok_if_fits w r _ _ (parse_signed_minus own w text r h parts.0)
+    ok_if_fits w r _ _ (parse_signed_minus numerals w text r h parts.0)
     (λ p. fits_neg w (number_on 0 (drop 1 text)) p.2) (λ no. fits_not_neg w (number_on 0 (drop 1 text)) (λ le. no (digits, some, le)))
 
 pub parsed : {E : Type 0} (w : Width) (text : List ℕ) (r : Result ℤ E) → ParsesSigned w 10 text r → (is_natural text || is_negative text) ≡ true → result_ok r ≡ number w text
@@ -80,9 +80,9 @@ unparsed w text n = let parts = or_parts (is_natural text) (is_negative text) n 
 pub parsed_within_32 : {E : Type 0} (text : List ℕ) (r : Result ℕ E) → ParsesUnsigned 32 10 text r → is_natural text ≡ true → result_ok r ≡ natural_below 4294967296 text
 unfolding natural_below
 parsed_within_32 {E} text (Ok n) h natural =
-    let parts = parse_digits own {E = E} 32 text (Ok n) h (natural_digits text natural) in grind (arith, nat_tests)
+    let parts = parse_digits numerals {E = E} 32 text (Ok n) h (natural_digits text natural) in grind (arith, nat_tests)
 parsed_within_32 {E} text (Err e) h natural =
-    let parts = parse_digits own {E = E} 32 text (Err e) h (natural_digits text natural) in
+    let parts = parse_digits numerals {E = E} 32 text (Err e) h (natural_digits text natural) in
     let some = natural_length text natural in
     let past = λ (lt : number_on 0 text < 2 ^ 32). parts (some, lt) in
     grind (arith, nat_tests)
@@ -91,9 +91,9 @@ parsed_within_32 {E} text (Err e) h natural =
 pub parsed_within_64 : {E : Type 0} (text : List ℕ) (r : Result ℕ E) → ParsesUnsigned 64 10 text r → is_natural text ≡ true → result_ok r ≡ natural_below 18446744073709551616 text
 unfolding natural_below
 parsed_within_64 {E} text (Ok n) h natural =
-    let parts = parse_digits own {E = E} 64 text (Ok n) h (natural_digits text natural) in grind (arith, nat_tests)
+    let parts = parse_digits numerals {E = E} 64 text (Ok n) h (natural_digits text natural) in grind (arith, nat_tests)
 parsed_within_64 {E} text (Err e) h natural =
-    let parts = parse_digits own {E = E} 64 text (Err e) h (natural_digits text natural) in
+    let parts = parse_digits numerals {E = E} 64 text (Err e) h (natural_digits text natural) in
     let some = natural_length text natural in
     let past = λ (lt : number_on 0 text < 2 ^ 64). parts (some, lt) in
     grind (arith, nat_tests)

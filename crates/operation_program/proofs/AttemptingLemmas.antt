@@ -17,6 +17,7 @@ use Rattle.aws_auth.specs.Signer.{SpellsAs, out_of_years, refusal_before_overrid
 use Rattle.aws_auth.specs.declared.error.SigV4SigningError.{SigV4SigningError}
 use Rattle.aws_auth.specs.declared.error.SigV4SigningError.TheVariants.{Signing}
 use Rattle.sigv4.specs.declared.error.SigningError.TheVariants.{MomentOutOfRange}
+use Rattle.sigv4.specs.Refusal.{unfit_request}
 use Rattle.aws_auth.specs.declared.options.HttpSignatureType.TheVariants.{HttpRequestHeaders}
 use Rattle.aws_intercept.specs.Agent.{agent_for_tests, agent_text}
 use Rattle.aws_intercept.specs.ClockSkew.{is_off, response_with_skew}
@@ -36,7 +37,7 @@ use Rattle.operation_run.proofs.AgainLemmas.{leading_within}
 use Rattle.operation_run.proofs.BagLemmas.{skew_on}
 use Rattle.signed_stream.specs.Plan.{TargetRead, TargetSpells, accepted, unaccepted, unread}
 use Rattle.signed_stream.specs.Chain.{outside_years}
-use Rattle.signed_stream.specs.Sign.{IsRequestError, Unsigned, error_ending, target_fault, unsigned}
+use Rattle.signed_stream.specs.Sign.{IsRequestError, Unsigned, error_ending, target_fault}
 use Rattle.signed_stream.specs.Status.{Ending, RunFault, no_memory, refused}
 use Rattle.signed_stream.proofs.SignLemmas.{RefusesFor, outside_refuses, passed_fault, target_refuses}
 use Rattle.signed_stream.proofs.TargetLemmas.{reads_one, reads_one_way}
@@ -114,7 +115,7 @@ module _ (s : Scripted) (parts : OperationParts) (is : IsPartsOf s parts) (bag :
         sent.made ∙ ap (λ (c : Case). with_parts c bag.invocation_id (info_text s.at (attempt_bag bag before))) case
             ∙ ap (λ given. with_parts (scripted_case s before sent.target) given (info_text s.at (attempt_bag bag before))) id
             ∙ ap (λ info. with_parts (scripted_case s before sent.target) (Some (codes "invocation-1")) info) (info_is bag begun before s.at) ∙ rw (is.method, is.target, is.body) refl,
-        passed_fault (is_in_years at) at (unsigned (scripted_case s before sent.target)) passed,
+        passed_fault (is_in_years at) at (unfit_request (scripted_case s before sent.target)) passed,
         rw is.target at sent.read,
       )
 

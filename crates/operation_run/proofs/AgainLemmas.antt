@@ -1,13 +1,11 @@
 -- Whether an operation is tried once more, and how often it is tried.
 use Rattle.std.proofs.Common.{◌≡◌, ℕ, suc, ◌+◌, ◌≤◌, Bool, true, false, List, [], ◌∷◌, ◌++◌, length, Option, Some, None, refl, arith, if◌then◌else◌}
-use Rattle.std.specs.Prelude.{is_some, option_map}
-use Rattle.smithy_core.specs.declared.error_metadata.ErrorMetadata.{ErrorMetadata}
-use Rattle.aws_intercept.specs.Classify.{Acts, code_of}
+use Rattle.std.specs.Prelude.{is_some}
+use Rattle.aws_intercept.specs.Classify.{Acts}
 use Rattle.aws_intercept.specs.declared.classify.RetryAction.{RetryAction}
 use Rattle.aws_intercept.specs.declared.classify.RetryAction.TheVariants.{NoActionIndicated, Retryable}
 use Rattle.aws_intercept.specs.declared.classify.RetryKind.{RetryKind}
 use Rattle.operation_run.specs.Again.{leading}
-use Rattle.operation_run.specs.Reply.{metadata_texts, reply_code}
 
 -- whether an attempt may be made again
 abbrev pub is_retryable : RetryAction → Bool
@@ -19,11 +17,6 @@ pub acts_kind : (kind : Option RetryKind) (text : Option (List ℕ)) (action : R
 acts_kind None text action is = rw is refl
 acts_kind (Some kind) text NoActionIndicated is = absurd is
 acts_kind (Some kind) text (Retryable found delay) is = refl
-
--- the code in what is said of an error
-pub same_code : (response : _) (error : Option ErrorMetadata) → reply_code (record { response = response; error = option_map metadata_texts error }) ≡ code_of error
-same_code response None = refl
-same_code response (Some error) = refl
 
 -- one more at the end of a list that all pass
 pub leading_more : {A : Type 0} (test : A → Bool) (xs : List A) (x : A) → leading test xs ≡ length xs → leading test (xs ++ x ∷ []) ≡ length xs + (if test x then 1 else 0)

@@ -8,7 +8,7 @@ use Rattle.aws_intercept.specs.declared.bag.ConfigBag.{ConfigBag}
 use Rattle.operation_run.specs.Attempt.{IsSent, OperationParts}
 use Rattle.operation_run.specs.Attempts.{GoesThrough, EndsAttempt}
 use Rattle.operation_run.specs.Reply.{ReplyTexts, RequestTexts}
-use Rattle.operation_run.specs.Steps.{Exchanged, Exchanges, IsAnswered, IsStopped, StopsUnsent, TakesEach, TriesOnce}
+use Rattle.operation_run.specs.Steps.{Exchanged, Exchanges, IsAnswered, IsStopped, TakesEach, TriesOnce}
 use Rattle.operation_run.specs.declared.fault.OperationFault.{OperationFault}
 use Rattle.operation_run.specs.declared.fault.OperationFault.TheVariants.{Id, Agent, Sign, TransportFault, NoMemory}
 use Rattle.operation_run.specs.declared.reply.Reply.{Reply}
@@ -63,23 +63,6 @@ module _ (G H K : List Instant → Type 0) (join : (m n : List Instant) → G m 
   tries_both (Err (Id fault)) was = absurd was.fault_is
   tries_both (Err (Agent fault)) was = absurd was.fault_is
   tries_both (Err (Sign error)) was = absurd was.fault_is
-
--- nothing was sent
-pub stopped_unsent : (G : List Instant → Type 0) (parts : OperationParts) (bag : ConfigBag) (sent : Option (List RequestTexts)) (replied : Option (List ReplyTexts)) (ma mb more : List Instant)
-    (fault : OperationFault) → TakesEach G ma mb more → StopsUnsent parts bag more fault → IsStopped G parts bag bag (over sent sent replied replied ma mb) fault
-stopped_unsent G parts bag sent replied ma mb more fault took stops = record {
-  more = more;
-  goes = record { sent = appends_none sent; replied = appends_none replied; moments = took.moments; given = took.given };
-  stops = by_fault fault stops;
-  bag_is = refl;
-}
-  where
-    by_fault : (fault : OperationFault) → StopsUnsent parts bag more fault → EndsAttempt parts bag more fault
-    by_fault (Id fault) stops = stops
-    by_fault (Agent fault) stops = stops
-    by_fault (Sign error) stops = stops
-    by_fault TransportFault stops = absurd stops
-    by_fault NoMemory stops = stops
 
 -- memory ran out at once
 pub stopped_at_once : (G : List Instant → Type 0) (parts : OperationParts) (bag now : ConfigBag) (sent : Option (List RequestTexts)) (replied : Option (List ReplyTexts)) (before moments : List Instant)

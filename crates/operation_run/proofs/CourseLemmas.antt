@@ -1,7 +1,7 @@
 -- What went out and came, and the moments, call after call.
-use Rattle.std.proofs.Common.{◌≡◌, List, [], ◌∷◌, ◌++◌, Option, Some, None, refl, sym, ap, subst, ◌∙◌}
+use Rattle.std.proofs.Common.{List, [], ◌∷◌, ◌++◌, Option, Some, None, refl, sym, ap, subst, ◌∙◌}
 use Rattle.std.proofs.lemmas.List.{append-nil, append_assoc}
-use Rattle.smithy_core.specs.Given.{Gives, GivesEach, GivesOne}
+use Rattle.smithy_core.specs.Given.{Gives, GivesEach}
 use Rattle.smithy_core.specs.Moment.{Instant}
 use Rattle.smithy_core.specs.declared.outside.clock.Clock as Clock
 use Rattle.smithy_core.proofs.GivenLemmas.{each_given}
@@ -12,10 +12,6 @@ module _ {A : Type 0} where
   pub appends_none : (held : Option (List A)) → Appends held held []
   appends_none None = refl
   appends_none (Some held) = ap Some (sym (append-nil held))
-
-  -- a list that stays
-  pub appends_same : (before now : Option (List A)) → now ≡ before → Appends before now []
-  appends_same before now same = rw same (appends_none before)
 
   -- more after more
   pub appends_twice : (before middle now : Option (List A)) (first later : List A) → Appends before middle first → Appends middle now later → Appends before now (first ++ later)
@@ -31,7 +27,3 @@ module _ {C : Type 0} (clock : Clock.Ghosts C) where
 
   pub gives_twice : (before middle now : C) (first later : List Instant) → Gives clock before first middle → Gives clock middle later now → Gives clock before (first ++ later) now
   gives_twice before middle now first later a b = each_given clock before now (first ++ later) (each_twice before middle now first later a.0 b.0)
-
-  -- one moment
-  pub gives_one : (before now : C) (moment : Instant) → GivesOne clock before moment now → Gives clock before (moment ∷ []) now
-  gives_one before now moment one = each_given clock before now (moment ∷ []) (now, one, refl)

@@ -63,7 +63,7 @@ first_of_one pairs name value one = first_is pairs name ∙ ap front one
 
 -- ---- one list of texts
 
-head_same : (a b : List ℕ) → ◌≡◌ {A = List (List ℕ)} (a ∷ []) (b ∷ []) → a ≡ b
+pub head_same : (a b : List ℕ) → ◌≡◌ {A = List (List ℕ)} (a ∷ []) (b ∷ []) → a ≡ b
 head_same a b e = cc
 
 one_value : (pairs : List Pair) (part : PresignPart) (a b : List ℕ) → parameter_values pairs part ≡ a ∷ [] → parameter_values pairs part ≡ b ∷ [] → a ≡ b

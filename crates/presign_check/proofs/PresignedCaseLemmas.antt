@@ -8,8 +8,8 @@ use Rattle.sigv4.specs.Canonical.{credential, expires_text, joined_names, names,
 use Rattle.sigv4.specs.Query.{Pair, decoded}
 use Rattle.sigv4.specs.Request.{Case}
 use Rattle.sigv4.specs.Signed.{signature_of}
+use Rattle.sigv4.proofs.SetLemmas.{bytes_eq-flipped}
 use Rattle.request_check.proofs.DecimalLemmas.{expiry_back}
-use Rattle.request_check.proofs.HeaderLineLemmas.{flipped}
 use Rattle.request_check.proofs.NamesLemmas.{signature_digits}
 use Rattle.request_check.proofs.QueryFormLemmas as query
 use Rattle.presign_check.specs.Parameters.{PresignTexts, StandOnce}
@@ -26,7 +26,7 @@ values_behind key (pair ∷ given) added others =
 -- the token's parameter has another name
 none_of_token : (key name : List ℕ) (token : Option (List ℕ)) → bytes_eq key name ≡ false → named_values (token_pairs name token) key ≡ []
 none_of_token key name None other = refl
-none_of_token key name (Some token) other = ap (λ (b : Bool). cond b (token ∷ []) []) (flipped name key ∙ other)
+none_of_token key name (Some token) other = ap (λ (b : Bool). cond b (token ∷ []) []) (bytes_eq-flipped name key ∙ other)
 
 with_front : (value : List ℕ) (values : List (List ℕ)) → values ≡ [] → value ∷ values ≡ value ∷ []
 with_front value values e = ap (λ (rest : List (List ℕ)). value ∷ rest) e

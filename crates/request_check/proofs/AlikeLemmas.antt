@@ -17,6 +17,7 @@ use Rattle.sigv4.specs.declared.error.SigningError.TheVariants.{InvalidUri}
 use Rattle.sigv4.specs.declared.settings.SignatureLocation.{SignatureLocation}
 use Rattle.sigv4.specs.declared.settings.SignatureLocation.TheVariants.{Headers, QueryParams}
 use Rattle.sigv4.proofs.FitLemmas.{passed}
+use Rattle.sigv4.proofs.AgainLemmas.{otherwise}
 use Rattle.request_check.specs.Recomputation.{IsAlike, IsSentOf, HasFormApart, Recomputes, IsSignedAsSent}
 use Rattle.request_check.specs.Recomputed.{ChecksRequest, RefusesSent, recomputed, unfit_sent}
 use Rattle.request_check.specs.Sealed.{IsSealed, IsUnsealed, SealParts, SealsHeaders, SealsParameters}
@@ -95,9 +96,9 @@ sent_joined c sent of alone = by of.spelled
 
 -- ---- header form
 
-no_parameters : (c : Case) → is_query_form c.settings ≡ false → parameters c ≡ []
+pub no_parameters : (c : Case) → is_query_form c.settings ≡ false → parameters c ≡ []
 unfolding parameters
-no_parameters c form = header.otherwise (is_query_form c.settings) _ _ form
+no_parameters c form = otherwise (is_query_form c.settings) _ _ form
 
 resealed_header : (c : Case) (sent : HttpRequest) → IsSignedAsSent c → header.SignsHeaders c → IsSentOf c sent → IsResealed c sent
 resealed_header c sent signs is of =

@@ -23,17 +23,16 @@ use Rattle.sigv4.specs.declared.error.SigningError.TheVariants.{InvalidTokenName
 use Rattle.sigv4.specs.declared.settings.SessionTokenMode.{SessionTokenMode}
 use Rattle.sigv4.specs.declared.settings.SessionTokenMode.TheVariants.{Include, Exclude}
 use Rattle.sigv4.specs.declared.settings.SignatureLocation.TheVariants.{Headers}
-use Rattle.sigv4.proofs.AgainLemmas.{same_signature}
+use Rattle.sigv4.proofs.AgainLemmas.{same_signature, otherwise, first-here}
 use Rattle.sigv4.proofs.FitLemmas.{both_none, fit-from_none, passed}
 use Rattle.sigv4.proofs.InsertedLemmas.{same_name}
-use Rattle.sigv4.proofs.SetLemmas.{flat_map-among, is_among, is_here}
+use Rattle.sigv4.proofs.SetLemmas.{flat_map-among, is_among, is_here, bytes_eq-flipped}
 use Rattle.request_check.specs.Authorization.{IsAuthorization}
 use Rattle.request_check.specs.Recomputation.{HasFormApart, IsSignedAsSent, IsTrimmed}
 use Rattle.request_check.specs.Recomputed.{recomputed, sent_pairs, sent_text, unfit_sent}
 use Rattle.request_check.specs.Sealed.{SealParts, SealsHeaders, sealed_credential}
 use Rattle.request_check.proofs.CaseLemmas.{among_from, among_parts, names_carried, names_whole, not_authorization}
-use Rattle.request_check.proofs.HeaderLineLemmas.{flipped}
-use Rattle.request_check.proofs.HostLemmas.{first_here, host_by}
+use Rattle.request_check.proofs.HostLemmas.{host_by}
 use Rattle.request_check.proofs.NamesLemmas.{signature_digits, stamp_trimmed}
 use Rattle.request_check.proofs.SentLemmas.{AreNamed, first_inserted_other, first_inserted_same, first_optional_other, given_inserted, given_lower, given_optional, kept_values, layer, layered, lower_inserted, lower_optional, named_given, named_optional, swapped, two_names}
 
@@ -71,10 +70,6 @@ own_name settings (Some name) form e =
     unreserved : (b : Bool) → not b ≡ true → b ≡ false
     unreserved true e = absurd (true≢false (sym e))
     unreserved false e = refl
-
-pub otherwise : {A : Type 0} (b : Bool) (x y : A) → b ≡ false → cond b x y ≡ y
-otherwise true x y e = absurd (true≢false e)
-otherwise false x y e = refl
 
 -- ---- the case
 
@@ -197,7 +192,7 @@ module _ (c : Case) (is : SignsHeaders c) where
       ∙ ap (layer p digits) (layered (codes "authorization") (Some (trim_all (authorization c))) (inserted (given_headers c.headers) (codes "x-amz-date") (stamp c.at)) name
       ∙ ap (λ (b : Bool). layer b (Some (trim_all (authorization c))) (named_values (inserted (given_headers c.headers) (codes "x-amz-date") (stamp c.at)) name)) other
       ∙ layered (codes "x-amz-date") (Some (stamp c.at)) (given_headers c.headers) name)))
-      ∙ swapped h t host c.token (layer p digits (layer d (Some (stamp c.at)) base)) (two_names (codes "host") token_name name (flipped (codes "host") token_name ∙ own.not_host))
+      ∙ swapped h t host c.token (layer p digits (layer d (Some (stamp c.at)) base)) (two_names (codes "host") token_name name (bytes_eq-flipped (codes "host") token_name ∙ own.not_host))
       ∙ ap (layer t c.token) (swapped h p host digits (layer d (Some (stamp c.at)) base) (two_names (codes "host") (codes "x-amz-content-sha256") name refl))
       ∙ ap (λ (values : List (List ℕ)). layer t c.token (layer p digits values)) (swapped h d host (Some (stamp c.at)) base (two_names (codes "host") (codes "x-amz-date") name refl))
       ∙ swapped t p c.token digits (layer d (Some (stamp c.at)) (layer h host base)) (two_names token_name (codes "x-amz-content-sha256") name own.not_payload)
@@ -235,7 +230,7 @@ module _ (c : Case) (is : SignsHeaders c) where
     where
       by_mode : (mode : SessionTokenMode) → not (list_any (bytes_eq (codes "x-amz-date")) (default_exclusions ++ excluded_token mode token_name ++ [])) ≡ true
       by_mode Include = refl
-      by_mode Exclude = ap (λ (b : Bool). not (b || false)) (flipped (codes "x-amz-date") token_name ∙ own.not_date)
+      by_mode Exclude = ap (λ (b : Bool). not (b || false)) (bytes_eq-flipped (codes "x-amz-date") token_name ∙ own.not_date)
 
   date_among : is_among (codes "x-amz-date") (names c) ≡ true
   date_among =
@@ -261,7 +256,7 @@ module _ (c : Case) (is : SignsHeaders c) where
     where
       by_mode : (mode : SessionTokenMode) → not (list_any (bytes_eq (codes "host")) (default_exclusions ++ excluded_token mode token_name ++ [])) ≡ true
       by_mode Include = refl
-      by_mode Exclude = ap (λ (b : Bool). not (b || false)) (flipped (codes "host") token_name ∙ own.not_host)
+      by_mode Exclude = ap (λ (b : Bool). not (b || false)) (bytes_eq-flipped (codes "host") token_name ∙ own.not_host)
 
   pub host_among : is_among (codes "host") (names c) ≡ true
   host_among =
@@ -274,7 +269,7 @@ module _ (c : Case) (is : SignsHeaders c) where
       ∙ kept_values c.token
       ∙ layered (codes "x-amz-date") (Some (stamp c.at)) (hosted_headers c.target c.headers) (codes "host")
       ∙ layered (codes "host") (added_host c.target c.headers) (given_headers c.headers) (codes "host"))
-      ∙ host_by (has_host c.headers) (host_text c.target) (named_values (given_headers c.headers) (codes "host")) (first_here (given_headers c.headers) (codes "host"))
+      ∙ host_by (has_host c.headers) (host_text c.target) (named_values (given_headers c.headers) (codes "host")) (first-here (given_headers c.headers) (codes "host"))
       (both_none (unfit_host c.target c.headers) _ after_headers.1).0)
 
   -- the headers have their names in lower case, before and after signing

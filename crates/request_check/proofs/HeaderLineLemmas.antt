@@ -2,24 +2,13 @@
 use Rattle.std.proofs.Common.{◌≡◌, ℕ, Bool, true, false, cond, List, [], ◌∷◌, ◌++◌, Some, refl, sym, ap, ◌∙◌, append_assoc, append-nil}
 use Rattle.std.specs.Prelude.{bytes_eq, codes}
 use Rattle.std.specs.List.{join_with_byte}
-use Rattle.std.proofs.lemmas.Bool.{false≢true}
-use Rattle.std.proofs.lemmas.Slice.Eq.{bytes_eq-Decides}
 use Rattle.smithy_core.specs.TextPairs.{inserted, lower, named_values}
 use Rattle.sigv4.specs.Canonical.{given_headers, joined_values, with_optional}
 use Rattle.sigv4.specs.Query.{Pair}
 use Rattle.sigv4.specs.Trim.{trim_all}
 use Rattle.sigv4.proofs.InsertedLemmas.{named-inserted_other, named-inserted_same, same_name}
+use Rattle.sigv4.proofs.SetLemmas.{bytes_eq-flipped}
 use Rattle.request_check.specs.HeaderLines.{before_listed, values_to_come}
-
--- texts are compared in either order
-pub flipped : (a b : List ℕ) → bytes_eq a b ≡ bytes_eq b a
-flipped a b = by (bytes_eq a b) refl (bytes_eq b a) refl
-  where
-    by : (p : Bool) → bytes_eq a b ≡ p → (q : Bool) → bytes_eq b a ≡ q → p ≡ q
-    by true e true f = refl
-    by false e false f = refl
-    by true e false f = absurd (false≢true (sym f ∙ (bytes_eq-Decides b a).1 (sym ((bytes_eq-Decides a b).0 e))))
-    by false e true f = absurd (false≢true (sym e ∙ (bytes_eq-Decides a b).1 (sym ((bytes_eq-Decides b a).0 f))))
 
 after_first : (value : List ℕ) (values : List (List ℕ)) → value ++ values_to_come false values ≡ join_with_byte 44 (value ∷ values)
 after_first value [] = append-nil value
@@ -31,20 +20,13 @@ pub values_joined : (values : List (List ℕ)) → values_to_come true values �
 values_joined [] = refl
 values_joined (value ∷ values) = after_first value values
 
--- a header of another name adds nothing
-pub passed_over : (text name key value : List ℕ) (rest : List Pair) (is_first : Bool) → bytes_eq name (lower key) ≡ false
-    → text ++ values_to_come is_first (named_values (given_headers ((key, value) ∷ rest)) name) ≡ text ++ values_to_come is_first (named_values (given_headers rest) name)
-passed_over text name key value rest is_first other =
-    ap (λ (b : Bool). text ++ values_to_come is_first (cond b (trim_all value ∷ named_values (given_headers rest) name) (named_values (given_headers rest) name)))
-    (flipped (lower key) name ∙ other)
-
 -- and one of the name its value
 pub one_more : (text new name key value : List ℕ) (rest : List Pair) (is_first : Bool) → bytes_eq name (lower key) ≡ true
     → new ≡ text ++ (before_listed is_first ++ trim_all value)
     → text ++ values_to_come is_first (named_values (given_headers ((key, value) ∷ rest)) name) ≡ new ++ values_to_come false (named_values (given_headers rest) name)
 one_more text new name key value rest is_first same more =
     let values = named_values (given_headers rest) name in
-    ap (λ (b : Bool). text ++ values_to_come is_first (cond b (trim_all value ∷ values) values)) (flipped (lower key) name ∙ same)
+    ap (λ (b : Bool). text ++ values_to_come is_first (cond b (trim_all value ∷ values) values)) (bytes_eq-flipped (lower key) name ∙ same)
     ∙ sym (append_assoc text (before_listed is_first ++ trim_all value) (values_to_come false values))
     ∙ ap (λ (front : List ℕ). front ++ values_to_come false values) (sym more)
 
@@ -59,4 +41,4 @@ host_alone host headers name is =
 pub host_aside : (host : List ℕ) (headers : List Pair) (name : List ℕ) → bytes_eq name (codes "host") ≡ false
     → joined_values (with_optional (codes "host") (Some host) headers) name ≡ joined_values headers name
 host_aside host headers name other =
-    ap (join_with_byte 44) (named-inserted_other (codes "host") host name (flipped (codes "host") name ∙ other) headers)
+    ap (join_with_byte 44) (named-inserted_other (codes "host") host name (bytes_eq-flipped (codes "host") name ∙ other) headers)

@@ -68,10 +68,6 @@ pub names_cut : (names : List (List ℕ)) (name : List ℕ) → is_among name na
 names_cut [] name is lack = absurd (false≢true is)
 names_cut (first ∷ names) name is lack = split_joined 59 first names lack
 
-lacks_no_space : (text : List ℕ) → Lacks 32 text → has_space text ≡ false
-unfolding has_space
-lacks_no_space text lacks = list_any_none (λ b. b == 32) text lacks
-
 -- names without spaces have none when they are joined
 pub joined_whole : (names : List (List ℕ)) → AllByRecursion (Lacks 32) names → has_space (join_with_byte 59 names) ≡ false
 unfolding has_space

@@ -37,15 +37,15 @@ use Rattle.sigv4.specs.declared.settings.SignatureLocation.TheVariants.{QueryPar
 use Rattle.sigv4.proofs.FitLemmas.{both_none, fit-from_none, passed}
 use Rattle.sigv4.proofs.InsertedLemmas.{itself, same_name}
 use Rattle.sigv4.proofs.ScopeLemmas.{scope_utf8}
-use Rattle.sigv4.proofs.SetLemmas.{is_among, is_here}
+use Rattle.sigv4.proofs.SetLemmas.{is_among, is_here, bytes_eq-flipped}
+use Rattle.sigv4.proofs.AgainLemmas.{first-here}
 use Rattle.request_check.specs.Recomputation.{HasFormApart, HaveNone, IsOfStrings, IsSignedAsSent, parameter_keys}
 use Rattle.request_check.specs.Recomputed.{recomputed, sent_pairs, sent_text, unfit_sent}
 use Rattle.request_check.specs.Sealed.{IsUnsealed, SealParts, SealsParameters, sealed_credential, spelled_seconds}
 use Rattle.request_check.proofs.CaseLemmas.{among_from, names_carried, names_utf8}
 use Rattle.request_check.proofs.DecimalLemmas.{expiry_back}
 use Rattle.request_check.proofs.EscapedLemmas.{AreTexts, decoded_with}
-use Rattle.request_check.proofs.HeaderLineLemmas.{flipped}
-use Rattle.request_check.proofs.HostLemmas.{first_here, host_by}
+use Rattle.request_check.proofs.HostLemmas.{host_by}
 use Rattle.request_check.proofs.NamesLemmas.{signature_digits, signature_utf8}
 use Rattle.request_check.proofs.SealLemmas.{unsealed_bare}
 use Rattle.request_check.proofs.SentLemmas.{AreNamed, layered, named_given, named_optional}
@@ -164,9 +164,9 @@ token_kept : (mode : SessionTokenMode) (name : List ℕ) (token : Option (List �
 token_kept Include name None differs = refl
 token_kept Exclude name None differs = refl
 token_kept Include name (Some token) differs =
-    ap (λ (b : Bool). cond (not (b || false)) ((name, token) ∷ []) []) (flipped name (codes "X-Amz-Signature") ∙ differs)
+    ap (λ (b : Bool). cond (not (b || false)) ((name, token) ∷ []) []) (bytes_eq-flipped name (codes "X-Amz-Signature") ∙ differs)
 token_kept Exclude name (Some token) differs =
-    λ i. cond (not ((flipped name (codes "X-Amz-Signature") ∙ differs) i || (itself name i || false))) ((name, token) ∷ []) []
+    λ i. cond (not ((bytes_eq-flipped name (codes "X-Amz-Signature") ∙ differs) i || (itself name i || false))) ((name, token) ∷ []) []
 
 five_kept : {X : Type 0} (keeps : X → Bool) (a b c d e : X) (xs ys : List X) → keeps a ≡ true → keeps b ≡ true → keeps c ≡ true → keeps d ≡ true → keeps e ≡ true
     → filter keeps xs ≡ ys → filter keeps (a ∷ b ∷ c ∷ d ∷ e ∷ xs) ≡ a ∷ b ∷ c ∷ d ∷ e ∷ ys
@@ -342,14 +342,14 @@ module _ (c : Case) (is : SignsQuery c) where
       by_mode : (mode : SessionTokenMode) → not (list_any (bytes_eq (codes "host")) (default_exclusions ++ excluded_token mode (lower token_name)
           ++ codes "x-amz-user-agent" ∷ codes "x-amz-checksum-mode" ∷ [])) ≡ true
       by_mode Include = refl
-      by_mode Exclude = ap (λ (b : Bool). not (b || false)) (flipped (codes "host") (lower token_name) ∙ free.not_host)
+      by_mode Exclude = ap (λ (b : Bool). not (b || false)) (bytes_eq-flipped (codes "host") (lower token_name) ∙ free.not_host)
 
   pub host_among : is_among (codes "host") (names c) ≡ true
   host_among =
       among_from c (codes "host") host_signed
       (ap is_here (ap (λ (headers : List Pair). named_values headers (codes "host")) canonical_are
       ∙ layered (codes "host") (added_host c.target c.headers) (given_headers c.headers) (codes "host"))
-      ∙ host_by (has_host c.headers) (host_text c.target) (named_values (given_headers c.headers) (codes "host")) (first_here (given_headers c.headers) (codes "host")) fit_host)
+      ∙ host_by (has_host c.headers) (host_text c.target) (named_values (given_headers c.headers) (codes "host")) (first-here (given_headers c.headers) (codes "host")) fit_host)
 
   -- ---- the pairs
 

@@ -1,5 +1,5 @@
 -- A request that was signed carries its own signature.
-use Rattle.std.proofs.Common.{◌≡◌, ℕ, false, List, [], Option, Some, None, refl, sym, ap, ◌∙◌, subst, true≢false}
+use Rattle.std.proofs.Common.{◌≡◌, ℕ, false, List, Option, Some, None, refl, sym, ap, ◌∙◌, subst, true≢false}
 use Rattle.std.specs.Prelude.{codes, is_some, option_and_then, string_bytes}
 use Rattle.http_uri.specs.declared.uri.Uri.{Uri}
 use Rattle.smithy_core.specs.TextPairs.{first_value}
@@ -10,15 +10,14 @@ use Rattle.sigv4.specs.Canonical.{joined_names, names}
 use Rattle.sigv4.specs.Parameters.{with_params}
 use Rattle.sigv4.specs.Query.{Pair, decoded}
 use Rattle.sigv4.specs.Request.{Case}
-use Rattle.sigv4.specs.Settings.{is_query_form}
-use Rattle.sigv4.specs.Signed.{authorization, parameters, signature_of}
+use Rattle.sigv4.specs.Signed.{authorization, signature_of}
 use Rattle.sigv4.specs.declared.settings.SignatureLocation.{SignatureLocation}
 use Rattle.sigv4.specs.declared.settings.SignatureLocation.TheVariants.{Headers, QueryParams}
 use Rattle.request_check.specs.Authorization.{IsAuthorization}
 use Rattle.request_check.specs.Recomputation.{HasFormApart, IsSentOf, IsSignedAsSent}
 use Rattle.request_check.specs.Recomputed.{recomputed}
 use Rattle.request_check.specs.Sealed.{IsSealed, IsSealedAt, IsUnsealed, SealParts, SealsHeaders, SealsParameters, sealed_credential, spelled_seconds}
-use Rattle.request_check.proofs.AlikeLemmas.{sent_parts}
+use Rattle.request_check.proofs.AlikeLemmas.{sent_parts, no_parameters}
 use Rattle.request_check.proofs.HeaderFormLemmas as header
 use Rattle.request_check.proofs.QueryFormLemmas as query
 use Rattle.request_check.proofs.SealLemmas.{absent, one_seal, unsealed_bare}
@@ -86,10 +85,6 @@ record OwnSeal (c : Case) (sent : HttpRequest) (uri : Uri) : Type 0 where
   sealed : IsSealed sent c.signer.region c.signer.name seal
   strictly : ReadsStrictly sent.headers
   same : seal.signature ≡ recomputed (string_bytes sent.method) (target_of uri) sent.headers c.settings c.payload c.signer seal
-
-no_parameters : (c : Case) → is_query_form c.settings ≡ false → parameters c ≡ []
-unfolding parameters
-no_parameters c form = header.otherwise (is_query_form c.settings) _ _ form
 
 some_same : (a b : List ℕ) → ◌≡◌ {A = Option (List ℕ)} (Some a) (Some b) → a ≡ b
 some_same a b e = cc

@@ -1,5 +1,5 @@
 -- The signed request of a case is let in at a service's door while it is due.
-use Rattle.std.proofs.Common.{◌≡◌, ℕ, ◌≤◌, ◌||◌, Bool, true, false, List, [], ◌∷◌, ◌++◌, Option, Some, None, Ok, Err, inl, inr, refl, sym, ap, ◌∙◌, subst, append_assoc, arith, unwrap_or, ◌≤ℤ◌, ◌<ℤ◌}
+use Rattle.std.proofs.Common.{◌≡◌, ℕ, ◌≤◌, ◌||◌, Bool, true, false, List, ◌∷◌, ◌++◌, Option, Some, None, Ok, Err, inl, inr, refl, sym, ap, ◌∙◌, subst, append_assoc, arith, unwrap_or, ◌≤ℤ◌, ◌<ℤ◌}
 use Rattle.std.specs.Prelude.{Result, codes, is_some, string_bytes}
 use Rattle.std.specs.List.{list_any}
 use Rattle.std.proofs.lemmas.List.Folds.{list_any-append}
@@ -14,7 +14,6 @@ use Rattle.sigv4.specs.Canonical.{credential, expires_text, joined_names, names}
 use Rattle.sigv4.specs.Parameters.{with_params}
 use Rattle.sigv4.specs.Query.{Pair, decoded}
 use Rattle.sigv4.specs.Request.{Case}
-use Rattle.sigv4.specs.Settings.{is_query_form}
 use Rattle.sigv4.specs.Signed.{authorization, parameters, signature_of, signed_headers}
 use Rattle.sigv4.specs.declared.settings.SignatureLocation.{SignatureLocation}
 use Rattle.sigv4.specs.declared.settings.SignatureLocation.TheVariants.{Headers, QueryParams}
@@ -22,7 +21,7 @@ use Rattle.request_check.specs.Authorization.{IsAuthorization}
 use Rattle.request_check.specs.Recomputation.{HasFormApart}
 use Rattle.request_check.specs.Recomputed.{carried_names, unfit_sent}
 use Rattle.request_check.specs.Stamped.{ReadsStamp}
-use Rattle.request_check.proofs.AlikeLemmas.{sent_accepted, sent_joined, sent_parts}
+use Rattle.request_check.proofs.AlikeLemmas.{sent_accepted, sent_joined, sent_parts, no_parameters}
 use Rattle.request_check.proofs.DecimalLemmas.{expiry_back}
 use Rattle.request_check.proofs.HeaderFormLemmas as header
 use Rattle.request_check.proofs.NamesLemmas.{signature_digits}
@@ -62,10 +61,6 @@ record ShowsRequest (c : Case) (limits : Limits) (place : SignatureLocation) (ta
   carried : CarriesAt place (signed_headers c) (decoded target) (case_texts place c)
   seconds : stated_seconds place (case_expires place c.settings.expires_in) ≡ Some (case_seconds place c.settings.expires_in)
   within : case_seconds place c.settings.expires_in ≤ limits.expiry
-
-no_parameters : (c : Case) → is_query_form c.settings ≡ false → parameters c ≡ []
-unfolding parameters
-no_parameters c form = header.otherwise (is_query_form c.settings) _ _ form
 
 -- what stands behind the algorithm's name
 authorization_rest : (c : Case) → authorization c ≡ codes "AWS4-HMAC-SHA256 "

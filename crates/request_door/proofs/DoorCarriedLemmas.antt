@@ -13,7 +13,7 @@ use Rattle.request_door.specs.DoorCarried.{CarriesAt, IsInForm, LacksFront, Meet
 use Rattle.request_door.specs.DoorOrder.{IsFirstMet, NoneMet}
 use Rattle.request_door.specs.declared.carried.Carried.{Carried}
 use Rattle.request_door.specs.declared.fault.DoorFault.{DoorFault}
-use Rattle.request_door.specs.declared.fault.DoorFault.TheVariants.{BothForms, NoForm, Missing, Repeated, OtherAlgorithm, Malformed}
+use Rattle.request_door.specs.declared.fault.DoorFault.TheVariants.{NoForm, Missing, Repeated, OtherAlgorithm, Malformed}
 use Rattle.request_door.proofs.DoorLemmas.{unfailed, unmet}
 
 -- ---- the form
@@ -21,9 +21,6 @@ use Rattle.request_door.proofs.DoorLemmas.{unfailed, unmet}
 pub in_one_form : (headers pairs : List Pair) (place : SignatureLocation) → IsInForm headers pairs place → NoneMet (MeetsDoorForm headers pairs) form_tests
 in_one_form headers pairs Headers is = (λ met. unmet (has_parameters pairs) is.1 met.1, (λ met. unfailed (has_authorization headers) is.0 met.0, tt))
 in_one_form headers pairs QueryParams is = (λ met. unmet (has_authorization headers) is.0 met.0, (λ met. unfailed (has_parameters pairs) is.1 met.1, tt))
-
-pub both_forms : (headers pairs : List Pair) → has_authorization headers ≡ true → has_parameters pairs ≡ true → ReadsCarried headers pairs (Err BothForms)
-both_forms headers pairs a b = inl (inl ((a, b), refl))
 
 pub no_form : (headers pairs : List Pair) → has_authorization headers ≡ false → has_parameters pairs ≡ false → ReadsCarried headers pairs (Err NoForm)
 no_form headers pairs a b = inl (inr (λ met. unmet (has_authorization headers) a met.0, inl ((a, b), refl)))
@@ -69,16 +66,6 @@ module _ (place : SignatureLocation) (headers pairs : List Pair) (part : Presign
   pub part_whole : (value : List ℕ) (rest : List DoorFault) → values ≡ value ∷ [] → NoneMet (MeetsCarried place headers pairs) rest
       → NoneMet (MeetsCarried place headers pairs) (Missing part ∷ Repeated part ∷ rest)
   part_whole value rest one none = (not_none value one, (not_several value one, none))
-
-  pub part_missing : values ≡ [] → IsFirstMet (MeetsCarried place headers pairs) (Missing part ∷ Repeated part ∷ []) (Missing part)
-  part_missing none = inl (none, refl)
-
-  pub part_repeated : (first second : List ℕ) (others : List (List ℕ)) → values ≡ first ∷ second ∷ others
-      → IsFirstMet (MeetsCarried place headers pairs) (Missing part ∷ Repeated part ∷ []) (Repeated part)
-  part_repeated first second others e = inr (λ none. differ (sym e ∙ none), inl (ap are_several e, refl))
-    where
-      differ : ◌≡◌ {A = List (List ℕ)} (first ∷ second ∷ others) [] → ⊥
-      differ e = cc
 
 -- ---- in headers
 

@@ -11,7 +11,7 @@ use Rattle.sigv4.specs.Settings.{Settings}
 use Rattle.request_check.specs.Sealed.{SealParts}
 use Rattle.request_door.specs.DoorSignature.{ComparesSeals, TestsSeal, seal_signature}
 use Rattle.request_door.specs.DoorFaults.{door_target_fault}
-use Rattle.request_door.specs.DoorPayloads.{IsOtherPayload, MakesPayload, shown_payload, signed_payload}
+use Rattle.request_door.specs.DoorPayloads.{IsOtherPayload, shown_payload, signed_payload}
 use Rattle.request_door.specs.Doors.{AcceptsTarget, TestsLast}
 use Rattle.request_door.specs.declared.fault.DoorFault.{DoorFault}
 use Rattle.request_door.specs.declared.payload.DoorPayload.{DoorPayload}
@@ -50,14 +50,6 @@ last_tested request settings body signer form seal uri shown text result is none
     by (Ok _) own = (none_now, own ∙ same)
     by (Err fault) (inl (differs, so)) = inr (inl (none_now, λ e. differs (e ∙ sym same), so))
     by (Err fault) (inr room) = inr (inr room)
-
--- a body that isn't the one that was signed, or memory that ran out
-pub last_untested : (request : HttpRequest) (settings : Settings) (body : List ℕ) (signer : Signer) (form : DoorPayload) (seal : SealParts) (uri : Uri)
-    (shown : Option (List ℕ)) (fault : DoorFault) → shown ≡ shown_payload request.headers → MakesPayload shown form body (Err fault)
-    → TestsLast request settings body signer form seal uri (Err fault)
-last_untested request settings body signer form seal uri shown fault is (inl (other, so)) =
-    inl (subst (λ (o : Option (List ℕ)). IsOtherPayload o form body) is other, so)
-last_untested request settings body signer form seal uri shown fault is (inr room) = inr (inr room)
 
 -- the target isn't read
 pub unread_target : (request : HttpRequest) (fault : UriFault) → ReadsTarget (string_bytes request.target) (Err fault) → AcceptsTarget request (Err (door_target_fault fault))

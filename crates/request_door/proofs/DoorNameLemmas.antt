@@ -23,10 +23,9 @@ use Rattle.sigv4.specs.declared.settings.SessionTokenMode.{SessionTokenMode}
 use Rattle.sigv4.specs.declared.settings.SignatureLocation.{SignatureLocation}
 use Rattle.sigv4.specs.declared.settings.SignatureLocation.TheVariants.{Headers, QueryParams}
 use Rattle.sigv4.proofs.InsertedLemmas.{itself, same_name}
-use Rattle.sigv4.proofs.SetLemmas.{is_among, is_here, order}
+use Rattle.sigv4.proofs.SetLemmas.{is_among, is_here, order, bytes_eq-flipped}
+use Rattle.sigv4.proofs.AgainLemmas.{first-here}
 use Rattle.request_check.proofs.CaseLemmas.{among_from, among_parts}
-use Rattle.request_check.proofs.HeaderLineLemmas.{flipped}
-use Rattle.request_check.proofs.HostLemmas.{first_here}
 use Rattle.request_check.proofs.NamesLemmas.{all_among}
 use Rattle.request_check.proofs.SentLemmas.{kept_values, layer, layered}
 use Rattle.request_check.proofs.ShownNamesLemmas.{ShowsNames}
@@ -113,10 +112,10 @@ there host headers name low plain here = by (bytes_eq (codes "host") name) refl
     either false b e = e
 
     by : (b : Bool) → bytes_eq (codes "host") name ≡ b → (bytes_eq name (codes "host") || is_some (first_value headers (lower name))) ≡ true
-    by true e = ap (λ (b : Bool). b || is_some (first_value headers (lower name))) (flipped name (codes "host") ∙ e)
+    by true e = ap (λ (b : Bool). b || is_some (first_value headers (lower name))) (bytes_eq-flipped name (codes "host") ∙ e)
     by false e =
         either (bytes_eq name (codes "host")) (is_some (first_value headers (lower name)))
-        (ap (λ (n : List ℕ). is_some (first_value headers n)) plain ∙ (first_here headers name ∙ (sym (hosted_here host headers name low e) ∙ here)))
+        (ap (λ (n : List ℕ). is_some (first_value headers n)) plain ∙ (first-here headers name ∙ (sym (hosted_here host headers name low e) ∙ here)))
 
 -- each header is among the headers
 each_here : (some all : List Pair) → ((name : List ℕ) → is_here (named_values some name) ≡ true → is_here (named_values all name) ≡ true)
@@ -231,8 +230,8 @@ module _ (c : Case) (target : Target) (shows : ShowsNames c target) where
       by_test false header e here = ap (λ (b : Bool). not b || list_any (bytes_eq header.0) (names c)) e
       by_test true header e here =
           let begins = (and_parts (begins_so header.0) _ e).0 in
-          let not_host = flipped (codes "host") header.0 ∙ differs header.0 (codes "host") begins refl in
-          let not_own = flipped (codes "authorization") header.0 ∙ differs header.0 (codes "authorization") begins refl in
+          let not_host = bytes_eq-flipped (codes "host") header.0 ∙ differs header.0 (codes "host") begins refl in
+          let not_own = bytes_eq-flipped (codes "authorization") header.0 ∙ differs header.0 (codes "authorization") begins refl in
           ap (λ (b : Bool). not b || list_any (bytes_eq header.0) (names c)) e
           ∙ (sym (among_bytes header.0 (names c))
           ∙ among_from c header.0 (owed_signed c.settings header.0 usual token e)

@@ -14,6 +14,7 @@ use Rattle.request_check.specs.Recomputed.{carried_names, recomputed, unfit_sent
 use Rattle.request_check.proofs.SealLemmas.{absent}
 use Rattle.request_check.proofs.StampLemmas.{stamped_once}
 use Rattle.presign_check.proofs.SignatureLemmas.{one_target, spelled_once}
+use Rattle.presign_check.proofs.ParameterLemmas.{head_same}
 use Rattle.request_door.specs.DoorAuthorization.{IsDoorAuthorization}
 use Rattle.request_door.specs.DoorCarried.{CarriesAt, DoorTexts, IsInForm, MeetsCarried, MeetsDoorForm, form_tests, tests_of}
 use Rattle.request_door.specs.DoorNames.{MeetsName, name_tests}
@@ -42,9 +43,6 @@ none_first meets (test ∷ tests) f none (inl p) = none.0 p.0
 none_first meets (test ∷ tests) f none (inr p) = none_first meets tests f none.1 p.1
 
 -- ---- one reading
-
-head_same : (a b : List ℕ) → ◌≡◌ {A = List (List ℕ)} (a ∷ []) (b ∷ []) → a ≡ b
-head_same a b e = cc
 
 some_same : {A : Type 0} {x y : A} → ◌≡◌ {A = Option A} (Some x) (Some y) → x ≡ y
 some_same {A} {x} {y} e = cc

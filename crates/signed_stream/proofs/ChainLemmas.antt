@@ -8,6 +8,7 @@ use Rattle.smithy_core.specs.Moment.{Instant}
 use Rattle.smithy_core.specs.Outside.{Gains, GainsPrefix, GainsRest}
 use Rattle.smithy_core.specs.Message.{Parts}
 use Rattle.smithy_core.proofs.GainLemmas.{gains_front, gains_join, gains_last, gains_nothing, prefix_join, prefix_within}
+use Rattle.smithy_core.proofs.YearLemmas.{in_years, years_in}
 use Rattle.eventstream.specs.Frame.{frame, unframed}
 use Rattle.eventstream.specs.Key.{Signer}
 use Rattle.eventstream.specs.Link.{begun, link_message, link_signature}
@@ -26,7 +27,6 @@ use Rattle.signed_stream.specs.Chain.{Refusal, chain_text, fault_at, first_refus
 use Rattle.signed_stream.specs.Sending.{EndsEarly, unless_refused}
 use Rattle.signed_stream.specs.Sending.{TakesInTurn, IsRefusedBy, IsSignFault, IsWriteFault, next_refused, sign_ending, write_ending}
 use Rattle.signed_stream.specs.Status.{Ending, RunFault, moment_out_of_range, no_memory, output_fault, refused}
-use Rattle.signed_stream.proofs.YearLemmas.{in_years, years_in}
 
 -- ## One message
 

@@ -1,9 +1,9 @@
 -- The generated request is signed, and not refused.
-use Rattle.std.proofs.Common.{◌≡◌, ℕ, zero, suc, ◌+◌, ◌/◌, ◌%◌, ◌<◌, ◌&&◌, ◌||◌, ◌==◌, inl, inr, Bool, true, false, not, IsTrue, List, [], ◌∷◌, ◌++◌, length, take, Some, None, refl, sym, ap, ◌∙◌, subst, arith, codes}
+use Rattle.std.proofs.Common.{◌≡◌, ℕ, zero, suc, ◌+◌, ◌/◌, ◌<◌, ◌&&◌, ◌||◌, ◌==◌, inl, inr, Bool, true, false, not, IsTrue, List, [], ◌∷◌, ◌++◌, length, take, Some, None, refl, sym, ap, ◌∙◌, subst, arith, codes}
 use Rattle.std.specs.Prelude.{All, slice_index, string_bytes, ◌⊎◌}
 use Rattle.std.specs.List.{list_all}
 use Rattle.http_header.specs.Token.{is_value_byte}
-use Rattle.std.proofs.lemmas.Bool.{agree_below_at, and_parts, or_right, not-true, eq-eqb, false≢true}
+use Rattle.std.proofs.lemmas.Bool.{and_parts, or_right, not-true, eq-eqb, false≢true}
 use Rattle.std.specs.Cmp.Lexicographic.{slice_cmp}
 use Rattle.std.specs.Ordering.{eq_by_cmp, nat_cmp}
 use Rattle.std.specs.declared.cmp.Ordering.{Ordering}
@@ -29,6 +29,7 @@ use Rattle.sigv4.specs.Request.{Case}
 use Rattle.sigv4.specs.Signed.{authorization, parameters}
 use Rattle.sigv4.proofs.SetLemmas.{among-set, is_among}
 use Rattle.sigv4.proofs.SignatureLemmas.{authorization-value}
+use Rattle.sigv4.proofs.FitLemmas.{digits-value}
 use Rattle.eventstream.specs.Key.{scope}
 use Rattle.aws_auth.specs.MessageSigner.{SignerState}
 use Rattle.aws_auth.specs.Options.{default_options}
@@ -129,12 +130,6 @@ target_is unaccepted spelled = absurd (reads_one_way (codes "https://gen.amazona
 target_is (accepted target) spelled = inr (ap accepted (reads_one (codes "https://gen.amazonaws.com/") target generated_target spelled spells_target))
 
 -- ## The request
-
-digit-value : (n : ℕ) → is_value_byte (48 + n % 10) ≡ true
-digit-value n = agree_below_at (λ d. is_value_byte (48 + d)) (λ _. true) 10 (n % 10) refl (omega arith)
-
-digits-value : (n : ℕ) (rest : List ℕ) → is_value rest ≡ true → is_value (two_digits n ++ rest) ≡ true
-digits-value n rest more = λ i. digit-value (n / 10) i && (digit-value n i && more i)
 
 -- a date and what comes after it may be a header's value, where that may
 date-value : (t : Instant) (rest : List ℕ) → is_value rest ≡ true → is_value (date t ++ rest) ≡ true

@@ -9,10 +9,11 @@ use Rattle.smithy_core.specs.Moment.{Instant}
 use Rattle.smithy_core.specs.Outside.{Gains}
 use Rattle.smithy_core.specs.Message.{Parts}
 use Rattle.smithy_core.specs.declared.request.HttpRequest.{HttpRequest}
+use Rattle.smithy_core.proofs.YearLemmas.{in_years, years_in}
 use Rattle.smithy_http.specs.Target.{Target}
 use Rattle.sigv4.specs.Query.{Pair}
 use Rattle.sigv4.specs.Request.{Case}
-use Rattle.sigv4.specs.Refusal.{unfit, unfit_signed_target}
+use Rattle.sigv4.specs.Refusal.{unfit, unfit_signed_target, unfit_request}
 use Rattle.sigv4.specs.Signed.{signature_of}
 use Rattle.sigv4.specs.declared.error.SigningError.{SigningError}
 use Rattle.env_config.specs.Files.{Place}
@@ -45,7 +46,7 @@ use Rattle.signed_stream.specs.Running.{CanBeDone, Completes, HasDone, RunsAsPla
 use Rattle.signed_stream.specs.Settings.{Selected, settings}
 use Rattle.signed_stream.specs.ShowSettings.{GaveTexts, IsShowable, settings_plan, shown_plan}
 use Rattle.signed_stream.specs.Shown.{shown_settings}
-use Rattle.signed_stream.specs.Sign.{IsSignedFor, case_fault, run_fault_for, unsigned}
+use Rattle.signed_stream.specs.Sign.{IsSignedFor, case_fault, run_fault_for}
 use Rattle.signed_stream.specs.Sources.{or_refused, selection, when_selected}
 use Rattle.signed_stream.specs.Status.{Ending, RunFault, done, job_too_large, moment_out_of_range, no_memory, output_fault, read_fault, refused, ended}
 use Rattle.signed_stream.specs.Stream.{GaveJob, GaveReading, IsStreamable, IsValid, case_plan, job_plan, selected_plan, streamed, target_plan, written_valid}
@@ -53,7 +54,6 @@ use Rattle.signed_stream.specs.Streaming.{CompletesStream, HasSentStream, IsSent
 use Rattle.signed_stream.specs.Written.{case_refusal, written_stream, written_end, written_until}
 use Rattle.signed_stream.proofs.ChainLemmas.{frames_unrefused, front_unrefused, unrefused_frames}
 use Rattle.signed_stream.proofs.TargetLemmas.{reads_one, reads_one_way}
-use Rattle.signed_stream.proofs.YearLemmas.{in_years, years_in}
 
 -- ## Done
 
@@ -97,7 +97,7 @@ done_case form text c events moments before now (Some fault) is goes = absurd (s
 done_case form text c events moments before now None is goes = by_refusal (case_refusal c events moments) refl goes
   where
     passed : (unfit c ≡ None) × (unfit_signed_target c ≡ None)
-    passed = none_of (unfit c) (unfit_signed_target c) (no_fault (unsigned c) is)
+    passed = none_of (unfit c) (unfit_signed_target c) (no_fault (unfit_request c) is)
 
     by_count : (whole : Bool) → (length moments == length events + 1) ≡ whole → case_refusal c events moments ≡ None
         → GoesAsPlanned (writes (written_stream form text c events moments) (if whole then done else no_memory)) done before now → DoneCase form text c events moments before now

@@ -7,10 +7,11 @@ use Rattle.smithy_core.specs.Outside.{Gains, GainsPrefix, IsAtEnd, IsCutOf}
 use Rattle.smithy_core.proofs.CutLemmas.{cut_at_start}
 use Rattle.smithy_core.proofs.GainLemmas.{gains_front, gains_last, gains_nothing, prefix_join, prefix_at_start, prefix_from_whole}
 use Rattle.eventstream.specs.Key.{Signer}
-use Rattle.chain_watch.specs.Walk.{Point, Walk, seed_point, stays, walk, walk_frames, walk_onto, walk_within}
+use Rattle.chain_watch.specs.Walk.{Walk, seed_point, stays, walk, walk_frames, walk_onto, walk_within}
 use Rattle.chain_watch.specs.Watch.{Watching, left_over, new_watch}
 use Rattle.chain_watch.specs.declared.chain_fault.ChainFault.{ChainFault}
 use Rattle.chain_watch.proofs.WalkLemmas.{walk_joined}
+use Rattle.chain_watch.proofs.CallLemmas.{onto_more}
 use Rattle.signed_stream.specs.EventLines.{AreFramed, count_line, event_line, event_lines}
 use Rattle.signed_stream.specs.Sending.{EndsEarly}
 use Rattle.signed_stream.specs.Plan.{most_input}
@@ -48,14 +49,6 @@ take_all n xs short =
     ap (λ (m : ℕ). take m xs) more ∙ ap (take (length xs + (n - length xs))) (sym (append-nil xs)) ∙ take-append-add xs [] (n - length xs)
     ∙ ap (λ (t : List ℕ). xs ++ t) (nothing_taken (n - length xs)) ∙ append-nil xs
 
--- events that come before others
-onto_more : (first second : List Parts) (others : Walk) → walk_onto (first ++ second) others ≡ walk_onto first (walk_onto second others)
-onto_more first second others = ap (λ (events : List Parts). record { events = events; at = others.at }) (append_assoc first second others.events)
-
--- bytes are walked from where the walk of those before them is
-joins : (signer : Signer) (at : Point) (first second : List ℕ) → walk signer at (first ++ second) ≡ walk_onto (walk signer at first).events (walk signer (walk signer at first).at second)
-joins signer at first second = walk_joined signer at first second
-
 -- what was read goes on with what comes then
 goes_on : (old new : Progress) (read more : List ℕ) (events : List Parts) → new.watch.signer ≡ old.watch.signer → walk_with old read ≡ walk_onto events (walk_with new [])
     → walk_with old (read ++ more) ≡ walk_onto events (walk_with new more)
@@ -66,10 +59,10 @@ goes_on old new read more events same walked =
     let reached = walk signer new.watch.at rest in
     let here : walk_with new [] ≡ reached = rw (append-nil rest, same) refl in
     ap (walk signer at) (sym (append_assoc old.waiting.items read more))
-    ∙ joins signer at (old.waiting.items ++ read) more
+    ∙ walk_joined signer at (old.waiting.items ++ read) more
     ∙ ap (λ (w : Walk). walk_onto w.events (walk signer w.at more)) (walked ∙ ap (walk_onto events) here)
     ∙ onto_more events reached.events (walk signer reached.at more)
-    ∙ ap (walk_onto events) (sym (joins signer new.watch.at rest more) ∙ ap (λ (s : Signer). walk s new.watch.at (rest ++ more)) (sym same))
+    ∙ ap (walk_onto events) (sym (walk_joined signer new.watch.at rest more) ∙ ap (λ (s : Signer). walk s new.watch.at (rest ++ more)) (sym same))
 
 -- ## Pieces, one after another
 

@@ -63,16 +63,17 @@ goes_read_fault (writes text end) held = record { ends = inr (inl refl); gains =
 
 -- ## What is kept
 
-unless : (test : Bool) (P : Type 0) → P → Unless test P
-unless true P holds = tt
-unless false P holds = holds
+-- what holds in any case
+pub holds_unless : (test : Bool) (P : Type 0) → P → Unless test P
+holds_unless true P holds = tt
+holds_unless false P holds = holds
 
 -- what stays as it was is kept by every answer
 pub keeps_same : (late : RunFault → Bool) (answer : Ending) (before now : Option (List ℕ)) → now ≡ before → KeepsOutput late answer before now
 keeps_same late done before now same = tt
 keeps_same late output_fault before now same = tt
 keeps_same late no_memory before now same = tt
-keeps_same late (refused fault) before now same = unless (late fault) _ same
+keeps_same late (refused fault) before now same = holds_unless (late fault) _ same
 keeps_same late other before now same = same
 
 -- the faults of frames
@@ -464,10 +465,6 @@ module _ (gave : List Place → FilesRead → Type 0) (free : (places : List Pla
 pub holds_untouched : (command : Command) (P : Type 0) → P → UnlessCommand command P
 holds_untouched (bad_word place) P holds = holds
 holds_untouched other P holds = tt
-
--- what holds in any case
-pub holds_unless : (test : Bool) (P : Type 0) → P → Unless test P
-holds_unless test P holds = unless test P holds
 
 pub holds_when : (test : Bool) (P : Type 0) → P → When test P
 holds_when true P holds = holds

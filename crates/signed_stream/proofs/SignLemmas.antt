@@ -20,6 +20,7 @@ use Rattle.aws_auth.specs.NameOverride.{MayAnswer, NameAnswer}
 use Rattle.eventstream.specs.Key.{Signer}
 use Rattle.eventstream.specs.Told.{signs_over}
 use Rattle.sigv4.specs.Signed.{signature_of}
+use Rattle.sigv4.specs.Refusal.{unfit_request}
 use Rattle.aws_auth.specs.MessageSigner.{GoesOn, SignerState, told_by}
 use Rattle.aws_auth.specs.Options.{AreSameOverrides, IsSameOptions}
 use Rattle.aws_auth.specs.declared.options.SigningOptions.{SigningOptions}
@@ -37,7 +38,7 @@ use Rattle.smithy_core.specs.Identity.{IsCredentials, IsSameIdentity, secret_of}
 use Rattle.signed_stream.specs.Chain.{outside_years}
 use Rattle.signed_stream.specs.Command.{Wanted}
 use Rattle.signed_stream.specs.Plan.{TargetSpells, TargetRead, accepted, unaccepted, unread}
-use Rattle.signed_stream.specs.Sign.{GivesName, IsRequestError, SealsFor, SignsJob, Unsigned, case_fault, error_ending, run_fault_for, identity_case, request_fault, unsigned}
+use Rattle.signed_stream.specs.Sign.{GivesName, IsRequestError, SealsFor, SignsJob, Unsigned, case_fault, error_ending, run_fault_for, identity_case, request_fault}
 use Rattle.signed_stream.specs.Status.{Ending, moment_out_of_range, no_memory, refused}
 use Rattle.signed_stream.proofs.TestLemmas.{IsPartError, IsTestError, unsigned_test}
 
@@ -102,9 +103,9 @@ pub target_refuses : (text : List ℕ) (at : Instant) (case : Target → Case) (
 target_refuses text at case error None years reads is =
     let same : error ≡ auth.Signing errors.InvalidUri = cc in
     rw same (tt, (unaccepted, reads, rw years refl))
-target_refuses text at case error (Some target) years reads is = by_error (unsigned (case target)) refl is
+target_refuses text at case error (Some target) years reads is = by_error (unfit_request (case target)) refl is
   where
-    by_error : (found : Option SigningError) → unsigned (case target) ≡ found → option_map auth.Signing found ≡ Some error
+    by_error : (found : Option SigningError) → unfit_request (case target) ≡ found → option_map auth.Signing found ≡ Some error
         → IsRequestError error × Unsigned text at case (error_ending error)
     by_error None found is = cc
     by_error (Some inner) found is =
@@ -221,7 +222,7 @@ module _ {F : Type 0} (calls : Shared F (Bor SigningSettings × (Bor SigV4Operat
       let passed = rw (asks.before, asks.chosen_is, same) at signs.passed in (
         signs.target,
         signs.read,
-        passed_fault (is_in_years (request_moment wanted first)) (request_moment wanted first) (unsigned (identity_case old identity region wanted first signs.target)) passed,
+        passed_fault (is_in_years (request_moment wanted first)) (request_moment wanted first) (unfit_request (identity_case old identity region wanted first signs.target)) passed,
         made,
       )
 

@@ -1,5 +1,5 @@
 -- The files that a run needs, and what they select.
-use Rattle.std.proofs.Common.{◌≡◌, ℕ, ◌+◌, ◌<◌, ◌≤◌, inl, inr, Bool, List, [], ◌∷◌, ◌++◌, length, map, take, get_or, Option, Some, None, refl, sym, ap, ◌∙◌, append_assoc, add-one, arith}
+use Rattle.std.proofs.Common.{◌≡◌, ℕ, ◌+◌, ◌<◌, ◌≤◌, inl, inr, List, [], ◌∷◌, ◌++◌, length, map, take, get_or, Option, Some, None, refl, sym, ap, ◌∙◌, append_assoc, add-one, arith}
 use Rattle.std.proofs.Math.Seq.{take-suc}
 use Rattle.std.proofs.lemmas.List.{map-append}
 use Rattle.std.specs.Prelude.{Result, Ok, Err, string_bytes}
@@ -7,7 +7,7 @@ use Rattle.std.specs.Global.{Vec}
 use Rattle.smithy_core.specs.Outside.{CountsFault}
 use Rattle.smithy_core.specs.declared.outside.disk.Disk as Disk
 use Rattle.smithy_core.specs.declared.outside.disk.DiskError.{DiskError}
-use Rattle.env_config.specs.Files.{Place, Usual, added_places, chosen_places, defaults_of, usual_if}
+use Rattle.env_config.specs.Files.{Place, Usual, added_places, chosen_places, defaults_of, or_usual}
 use Rattle.env_config.specs.Loading.{Loads, StopsAtFile}
 use Rattle.env_config.specs.Source.{file_of}
 use Rattle.env_config.specs.declared.files.Builder.{Builder}
@@ -16,13 +16,14 @@ use Rattle.env_config.specs.declared.load_fault.EnvConfigFileLoadError.TheVarian
 use Rattle.env_config.specs.declared.source.EnvConfigFileKind.{EnvConfigFileKind}
 use Rattle.env_config.specs.declared.source.EnvConfigFileKind.TheVariants.{Config, Credentials}
 use Rattle.env_config.specs.declared.source.Source.{Source}
+use Rattle.env_config.proofs.FilesLemmas.{chosen_grows}
 use Rattle.signed_stream.specs.Carriers.{IsAfterTexts}
 use Rattle.signed_stream.specs.Effects.{ReadsAndWrites}
 use Rattle.signed_stream.specs.Plan.{FilesRead, loaded, unloaded, unreadable}
 use Rattle.signed_stream.specs.ProfileOptions.{place_of}
 use Rattle.job_text.specs.ProfileTexts.{ProfileTexts}
 use Rattle.signed_stream.specs.Settings.{GivesSettings, selected_in, settings}
-use Rattle.signed_stream.specs.Sources.{DiskGives, given_place, given_places, or_usual, selection, source_places}
+use Rattle.signed_stream.specs.Sources.{DiskGives, given_place, given_places, selection, source_places}
 use Rattle.signed_stream.specs.Selecting.{selection_ending}
 use Rattle.signed_stream.specs.Status.{Ending, could_not_read_file, load_ending, output_fault, read_fault, settings_ending}
 use Rattle.signed_stream.specs.declared.command.profile.NamedFile.{NamedFile}
@@ -31,15 +32,6 @@ use Rattle.signed_stream.specs.declared.settings.SettingsFault.{SettingsFault}
 use Rattle.signed_stream.specs.declared.settings.SettingsFault.TheVariants as faults
 use Rattle.signed_stream.specs.declared.sources.SelectFault.{SelectFault}
 use Rattle.signed_stream.specs.declared.sources.SelectFault.TheVariants as selections
-
-grows : (a b : Bool × Bool) (first second more : List Place) → second ≡ first ++ more → b ≡ a
-    → usual_if b.0 Config ++ (usual_if b.1 Credentials ++ second) ≡ (usual_if a.0 Config ++ (usual_if a.1 Credentials ++ first)) ++ more
-grows a b first second more added same =
-    rw (added, same, ← append_assoc (usual_if a.1 Credentials) first more, ← append_assoc (usual_if a.0 Config) (usual_if a.1 Credentials ++ first) more) refl
-
--- the default files stay in front of what is added
-pub chosen_grows : (before now : Builder) (more : List Place) → added_places now ≡ added_places before ++ more → defaults_of now ≡ defaults_of before → chosen_places now ≡ chosen_places before ++ more
-chosen_grows before now more added same = grows (defaults_of before) (defaults_of now) (added_places before) (added_places now) more added same
 
 -- a file that is named comes behind those that were
 pub named_grows : (start : List Place) (before now : Builder) (named : List NamedFile) (i : ℕ) (other : NamedFile) → i < length named

@@ -7,7 +7,7 @@ use Rattle.sigv4.specs.Canonical.{has_host, signing_parameters, header_payload}
 use Rattle.sigv4.specs.Host.{host_text}
 use Rattle.sigv4.specs.Parameters.{is_asterisk, takes_no_more}
 use Rattle.sigv4.specs.Query.{Pair}
-use Rattle.sigv4.specs.Refusal.{is_name, is_token_name, is_value, unfit, unfit_expiry, unfit_header, unfit_headers, unfit_host, unfit_host_text, unfit_optional, unfit_override, unfit_signed_target, unfit_texts, unfit_token_name, unfit_value, unless}
+use Rattle.sigv4.specs.Refusal.{is_name, is_token_name, is_value, unfit, unfit_expiry, unfit_header, unfit_headers, unfit_host, unfit_host_text, unfit_optional, unfit_override, unfit_signed_target, unfit_texts, unfit_token_name, unfit_value, unless, unfit_request}
 use Rattle.sigv4.specs.Request.{Case}
 use Rattle.sigv4.specs.Settings.{Settings, is_query_form}
 use Rattle.sigv4.specs.Signed.{authorization, parameters}
@@ -15,7 +15,6 @@ use Rattle.sigv4.specs.declared.error.SigningError.{SigningError}
 use Rattle.sigv4.specs.declared.error.SigningError.TheVariants.{InvalidHeaderName, InvalidHeaderValue, InvalidTokenName, InvalidUri, MissingExpires, MissingHost}
 use Rattle.sigv4.specs.declared.error.ValuePlace.{ValuePlace}
 use Rattle.sigv4.specs.declared.error.ValuePlace.TheVariants.{Header, Host, Token, PayloadHash, Authorization}
-use Rattle.signed_stream.specs.Sign.{unsigned}
 
 -- the errors of the tests but for those of the target
 abbrev pub IsPartError : SigningError → Type 0
@@ -124,7 +123,7 @@ of_target : (c : Case) (fails : Bool) → (fails ≡ true → takes_no_more (par
 of_target c false takes = tt
 of_target c true takes = inl (refl, takes refl)
 
-case_test : (c : Case) → GivesTests c (unsigned c)
+case_test : (c : Case) → GivesTests c (unfit_request c)
 unfolding unfit unfit_signed_target
 case_test c =
     either_test c _ _
@@ -133,5 +132,5 @@ case_test c =
     (of_target c (takes_no_more (parameters c) c.target) (λ takes. takes))
 
 -- a request is unsigned for one of these
-pub unsigned_test : (c : Case) (error : SigningError) → unsigned c ≡ Some error → IsTestError c error
+pub unsigned_test : (c : Case) (error : SigningError) → unfit_request c ≡ Some error → IsTestError c error
 unsigned_test c error is = let given : GivesTests c (Some error) = rw is at (case_test c) in given

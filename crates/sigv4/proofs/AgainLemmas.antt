@@ -106,7 +106,7 @@ alike-signing settings date token payload name xs ys same =
     alike-optional (codes "x-amz-date") (Some date) name xs ys (λ d. same p t d)))
 
 -- a first value is there where there are values
-first-here : (pairs : List Pair) (name : List ℕ) → is_some (first_value pairs name) ≡ is_here (named_values pairs name)
+pub first-here : (pairs : List Pair) (name : List ℕ) → is_some (first_value pairs name) ≡ is_here (named_values pairs name)
 first-here [] name = refl
 first-here (pair ∷ pairs) name = by_test (bytes_eq pair.0 name) (first-here pairs name)
   where
@@ -160,7 +160,7 @@ module _ (settings : Settings) (xs ys : List Pair) (same : (name : List ℕ) →
 
 -- ---- a case in header form
 
-otherwise : {A : Type 0} (b : Bool) (x y : A) → b ≡ false → cond b x y ≡ y
+pub otherwise : {A : Type 0} (b : Bool) (x y : A) → b ≡ false → cond b x y ≡ y
 otherwise true x y e = absurd (true≢false e)
 otherwise false x y e = refl
 

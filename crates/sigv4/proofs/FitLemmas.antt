@@ -113,7 +113,7 @@ own_name settings (Some name) form e =
 digit-value : (n : ℕ) → is_value_byte (48 + n % 10) ≡ true
 digit-value n = agree_below_at (λ d. is_value_byte (48 + d)) (λ _. true) 10 (n % 10) refl (omega arith)
 
-digits-value : (n : ℕ) (rest : List ℕ) → is_value rest ≡ true → is_value (two_digits n ++ rest) ≡ true
+pub digits-value : (n : ℕ) (rest : List ℕ) → is_value rest ≡ true → is_value (two_digits n ++ rest) ≡ true
 digits-value n rest more = λ i. digit-value (n / 10) i && (digit-value n i && more i)
 
 -- a stamp may be a header's value

@@ -95,17 +95,6 @@ sorted-held settings pairs before after up stable holds =
 
 -- ---- one header after another
 
--- values of a name in two steps
-pub signed-next : (settings : Settings) (head : Pair) (headers : List Pair) (name : List ℕ)
-    → signed_values settings (head ∷ []) name ++ signed_values settings headers name ≡ signed_values settings (head ∷ headers) name
-signed-next settings head headers name = by_test (is_signed settings name) (bytes_eq head.0 name)
-  where
-    by_test : (signed here : Bool) → cond signed (cond here (head.1 ∷ []) []) [] ++ cond signed (named_values headers name) []
-        ≡ cond signed (cond here (head.1 ∷ named_values headers name) (named_values headers name)) []
-    by_test false here = refl
-    by_test true false = refl
-    by_test true true = refl
-
 -- of the one header that is signed, the value is there at its name alone
 pub signed-one : (settings : Settings) (head : Pair) (name : List ℕ) → is_signed settings head.0 ≡ true
     → named_values (head ∷ []) name ≡ signed_values settings (head ∷ []) name
@@ -115,16 +104,6 @@ signed-one settings head name is = by_test (bytes_eq head.0 name) refl (is_signe
         → cond here (head.1 ∷ []) [] ≡ cond signed (cond here (head.1 ∷ []) []) []
     by_test here e true s = refl
     by_test true e false s = absurd (subst T (sym is ∙ ap (is_signed settings) (same_name head.0 name e) ∙ s) tt)
-    by_test false e false s = refl
-
--- of a header that isn't signed there are no values
-pub unsigned-one : (settings : Settings) (head : Pair) (name : List ℕ) → is_signed settings head.0 ≡ false → signed_values settings (head ∷ []) name ≡ []
-unsigned-one settings head name is = by_test (bytes_eq head.0 name) refl (is_signed settings name) refl
-  where
-    by_test : (here : Bool) → bytes_eq head.0 name ≡ here → (signed : Bool) → is_signed settings name ≡ signed → cond signed (cond here (head.1 ∷ []) []) [] ≡ []
-    by_test true e true s = absurd (subst T (sym s ∙ ap (is_signed settings) (sym (same_name head.0 name e)) ∙ is) tt)
-    by_test true e false s = refl
-    by_test false e true s = refl
     by_test false e false s = refl
 
 named-append : (xs ys : List Pair) (name : List ℕ) → named_values (xs ++ ys) name ≡ named_values xs name ++ named_values ys name

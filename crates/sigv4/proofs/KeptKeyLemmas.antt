@@ -32,7 +32,3 @@ kept_signer kept t = by (is_kept kept.date t) where
   by : (b : Bool) → (if b then kept else derived_at kept t).signer ≡ kept.signer
   by true = refl
   by false = refl
-
--- a key that was derived is that of its moment's date
-pub derived_is_kept : (kept : Kept) (t : Instant) → is_kept (derived_at kept t).date t ≡ true
-derived_is_kept kept t = (bytes_eq-Decides (date t) (date t)).1 refl

@@ -16,8 +16,8 @@ use Rattle.std.specs.Cmp.{tied_itself}
 use Rattle.std.proofs.lemmas.Bool.{cases_Bool, false≢true}
 use Rattle.std.proofs.lemmas.Bool.Decides.{nat_tests}
 use Rattle.std.proofs.lemmas.Slice.Eq.{bytes_eq-Decides}
-use Rattle.std.proofs.lemmas.Str.Ascii.{lowercase-lowercase}
 use Rattle.smithy_core.specs.TextPairs.{lower}
+use Rattle.smithy_core.proofs.LowerLemmas.{lower_lower}
 use Rattle.sigv4.specs.Canonical.{names}
 use Rattle.sigv4.specs.Request.{Case}
 use Rattle.sigv4.proofs.RefusalLemmas.{decides-text}
@@ -62,10 +62,6 @@ order-agrees a b = (exact_bytes a b, λ e. ap (order a) (sym e) ∙ tied_itself 
 pub ruleset ordered = (names-ascend, order-agrees)
 
 -- ---- names in lower case
-
-lower_lower : (text : List ℕ) → lower (lower text) ≡ lower text
-lower_lower [] = refl
-lower_lower (byte ∷ bytes) = rw (lowercase-lowercase byte, lower_lower bytes) refl
 
 -- a name in lower case is another one in lower case where it is the same but for the case
 pub lower-of : (name other : List ℕ) (r : Bool) → bytes_eq (lower name) name ≡ true → (IsTrue r ↔ (lower name ≡ lower other)) → r ≡ bytes_eq name (lower other)

@@ -22,6 +22,7 @@ use Rattle.smithy_http.specs.Query.{ampersand, pair, pair_text}
 use Rattle.smithy_http.specs.Target.{Target, target_of, target_text}
 use Rattle.smithy_http.proofs.FitLemmas.{is_harmless, base_harmless, query_of_harmless}
 use Rattle.smithy_http.proofs.QueryLemmas.{pairs_joined}
+use Rattle.smithy_http.proofs.TargetLemmas.{same_first, some_byte}
 use Rattle.sigv4.specs.Query.{Pair}
 use Rattle.sigv4.specs.Parameters.{is_asterisk, is_too_long, takes_no_more, with_params}
 
@@ -79,17 +80,6 @@ with_query t param params = pairs_joined t (escaped_pair param) (map escaped_pai
 
 query_with_asked : (t : Target) (param : Pair) (params : List Pair) → IfSome t.query IsQueryText → IsQueryText (query_with t param params)
 query_with_asked t param params asked = subst (λ (x : Target). IfSome x.query IsQueryText) (with_query t param params) (query_asked t (param ∷ params) asked)
-
-some_byte : (bytes : List ℕ) → 0 < get_or bytes 0 0 → 0 < length bytes
-some_byte [] is = absurd (omega (arith, is))
-some_byte (first ∷ bytes) is = omega arith
-
--- a text begins the same up to another byte
-same_first : (byte : ℕ) (text : List ℕ) → 0 < get_or text 0 0 → get_or text 0 0 ≢ byte → get_or (split_once_front byte text) 0 0 ≡ get_or text 0 0
-same_first byte text some other =
-    let past : 1 ≤ index_of byte text =
-    index_of_at_least byte text 1 (some_byte text some) λ k h. let first : k ≡ 0 = omega arith in rw first other in
-    get_or-take (index_of byte text) text 0 0 past
 
 -- the text before a mark, and the one after it
 front_utf8 : (byte : ℕ) (text : List ℕ) → byte < 128 → IsUtf8 text → IsUtf8 (split_once_front byte text)

@@ -6,7 +6,7 @@ use Rattle.std.proofs.lemmas.Bool.{false≢true}
 use Rattle.std.proofs.lemmas.List.{length_push}
 use Rattle.std.proofs.Math.Seq.{get_or-append_seam}
 use Rattle.std.proofs.lemmas.List.Elements.{All-from_recursion, All-get_or, All-nil, All-push, All-take, recursion_from_All}
-use Rattle.std.proofs.lemmas.List.Sums.{fold-append, fold_push}
+use Rattle.std.proofs.lemmas.List.Sums.{fold-append}
 use Rattle.http_uri.specs.ByteClasses.{slash}
 use Rattle.sigv4.specs.Path.{after_slash, closing_slash, ends_open, is_dropped_segment, is_parent_segment, kept, kept_after, norm, norm_of, segment_texts, segments}
 use Rattle.sigv4.proofs.JoinLemmas.{AllLack, Lacks, join_more, split_joined, split_lacks}
@@ -16,10 +16,6 @@ pub ends_push : (ps : List (List ℕ)) (p : List ℕ) → ends_open (ps ++ p ∷
 ends_push ps p =
     let at : length (ps ++ p ∷ []) - 1 ≡ length ps = omega (arith, length_push ps p) in
     ap (λ (last : List ℕ). is_dropped_segment last || is_parent_segment last) (ap (λ (i : ℕ). get_or (ps ++ p ∷ []) i []) at ∙ get_or-append_seam ps p [] [])
-
--- one more segment
-pub kept_push : (ps : List (List ℕ)) (p : List ℕ) → kept (ps ++ p ∷ []) ≡ kept_after (kept ps) p
-kept_push ps p = fold_push kept_after [] ps p
 
 -- each segment after a slash
 slashed : (p : List ℕ) (ps : List (List ℕ)) → flat_map after_slash (p ∷ ps) ≡ slash ∷ join_with_byte slash (p ∷ ps)

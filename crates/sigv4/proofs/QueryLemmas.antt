@@ -1,9 +1,8 @@
 -- Queries, pair by pair.
-use Rattle.std.proofs.Common.{◌≡◌, ℕ, zero, suc, ◌+◌, ◌<◌, ◌==◌, Bool, Bor, List, [], ◌∷◌, ◌++◌, length, map, take, get_or, Option, Some, None, unwrap_or, refl, sym, ap, ◌∙◌, arith}
+use Rattle.std.proofs.Common.{◌≡◌, ℕ, zero, suc, ◌+◌, ◌<◌, ◌==◌, Bool, List, [], ◌∷◌, ◌++◌, length, map, take, get_or, refl, sym, ap, ◌∙◌, arith}
 use Rattle.std.specs.declared.alloc.Global.{Global}
 use Rattle.std.specs.declared.string.String.{String}
 use Rattle.std.specs.List.{join_with_byte}
-use Rattle.std.specs.Option.{option_copied}
 use Rattle.std.proofs.Math.Dec.{eqb-suc-zero}
 use Rattle.std.proofs.lemmas.List.{map_more, map_push}
 use Rattle.smithy_http.specs.Query.{ampersand, pair_text}
@@ -25,8 +24,3 @@ joined_more xs i x within is =
     ∙ ap (join_with_byte ampersand) (map_push pair_text front (string_pair x))
     ∙ join_more ampersand (map pair_text front) (pair_text (string_pair x))
     ∙ ap (λ (none : Bool). joined_pairs front ++ (pair_separator none ++ pair_text (string_pair x))) (none_taken xs i within)
-
--- what a reference in an option points to
-pub copied_or : (text : Option (Bor (List ℕ))) (default : Bor (List ℕ)) → (unwrap_or text default).now ≡ unwrap_or (option_copied text) default.now
-copied_or None default = refl
-copied_or (Some text) default = refl

@@ -10,10 +10,20 @@ use Rattle.http_header.specs.FieldValue.{IsFieldValue}
 use Rattle.http_header.specs.Token.{is_token_byte, is_value_byte, token_test}
 use Rattle.http_header.proofs.TokenLemmas.{IsFieldName-from_test}
 use Rattle.smithy_core.specs.TextPairs.{AreLower, first_value, lower, value_if}
+use Rattle.smithy_http.specs.Target.{Target}
 use Rattle.sigv4.specs.Canonical.{given_headers}
 use Rattle.sigv4.specs.Query.{Pair}
-use Rattle.sigv4.specs.Refusal.{is_name, is_value}
+use Rattle.sigv4.specs.Refusal.{is_name, is_value, unfit_signed_target}
 use Rattle.sigv4.specs.Trim.{trim_all}
+use Rattle.sigv4.specs.EventStream.{unsignable}
+use Rattle.sigv4.specs.Parameters.{takes_no_more}
+use Rattle.sigv4.specs.Request.{Case, identity_of, request_case}
+use Rattle.sigv4.specs.Signed.{parameters}
+use Rattle.sigv4.specs.SigningParams.{params_time}
+use Rattle.sigv4.specs.declared.error.SigningError.TheVariants.{InvalidUri}
+use Rattle.sigv4.specs.declared.request.SignableRequest.{SignableRequest}
+use Rattle.sigv4.specs.declared.signing_params.SigningParams.{SigningParams}
+use Rattle.sigv4.specs.declared.signing_params.SigningParams.TheVariants.{V4}
 
 -- a test that decides a fact is the one that decides it
 pub same_test : {P : Type 0} (a b : Bool) → (IsTrue a ↔ P) → (IsTrue b → P) → (P → IsTrue b) → a ≡ b
@@ -53,3 +63,18 @@ first-given (header ∷ headers) name lower =
 -- a test whether there is a value
 pub decides-some : (value : Option (List ℕ)) (r : Bool) → (IsTrue r ↔ IsSome value) → r ≡ is_some value
 decides-some value r is = same_test r (is_some value) is (λ holds. holds) (λ holds. holds)
+
+-- who signs by parameters signs the case of a request
+pub case_able : (params : SigningParams) (signable : SignableRequest) → unsignable (identity_of params) (params_time params) ≡ None
+    → unsignable (identity_of params) (request_case signable params).at ≡ None
+case_able (V4 params) signable able = able
+
+-- a target takes the parameters of a case exactly where this test passes
+pub taken : (c : Case) (target : Target) (made : List Pair) → c.target ≡ target → made ≡ parameters c → takes_no_more made target ≡ false → unfit_signed_target c ≡ None
+unfolding unfit_signed_target
+taken c target made is given takes = rw (← given, is, takes) refl
+
+pub not_taken : (c : Case) (target : Target) (made : List Pair) → c.target ≡ target → made ≡ parameters c → takes_no_more made target ≡ true
+    → unfit_signed_target c ≡ Some InvalidUri
+unfolding unfit_signed_target
+not_taken c target made is given takes = rw (← given, is, takes) refl

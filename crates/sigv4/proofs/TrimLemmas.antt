@@ -1,5 +1,5 @@
 -- Trimmed texts, word by word.
-use Rattle.std.proofs.Common.{◌≡◌, ℕ, Bool, true, false, not, ◌==◌, cond, List, [], ◌∷◌, ◌++◌, length, filter, refl, sym, ap, ◌∙◌, append_assoc, append-nil}
+use Rattle.std.proofs.Common.{◌≡◌, ℕ, Bool, true, false, not, ◌==◌, cond, List, [], ◌∷◌, ◌++◌, length, filter, refl, sym, ap, ◌∙◌, append_assoc}
 use Rattle.std.specs.List.{AllByRecursion, join_with_byte, slice_split}
 use Rattle.std.proofs.lemmas.List.Elements.{filter-append, filter_passes, recursion_from_All}
 use Rattle.smithy_core.specs.Text.{space}
@@ -22,10 +22,6 @@ lack_kept c (w ∷ ws) lack = by (is_word w) (lack_kept c ws lack.1)
 -- a word comes after the words before it, and an empty piece is none
 pub word_more : (parts : List (List ℕ)) (w : List ℕ) → (length w == 0) ≡ false → filter is_word (parts ++ w ∷ []) ≡ filter is_word parts ++ w ∷ []
 word_more parts w some = filter-append is_word parts (w ∷ []) ∙ ap (λ (empty : Bool). filter is_word parts ++ cond (not empty) (w ∷ []) []) some
-
-pub no_word_more : (parts : List (List ℕ)) (w : List ℕ) → (length w == 0) ≡ true → filter is_word (parts ++ w ∷ []) ≡ filter is_word parts
-no_word_more parts w none =
-    filter-append is_word parts (w ∷ []) ∙ ap (λ (empty : Bool). filter is_word parts ++ cond (not empty) (w ∷ []) []) none ∙ append-nil (filter is_word parts)
 
 -- and joins them after a space, unless it is the first
 pub joined_more : (start out new : List ℕ) (is_first : Bool) (parts : List (List ℕ)) (w : List ℕ) → (length w == 0) ≡ false

@@ -9,7 +9,7 @@ gains_nothing None = refl
 gains_nothing (Some before) = ap Some (sym (append-nil before))
 
 -- one text is gained after another
-gains_twice : (a b c : Option (List ℕ)) (front back : List ℕ) → Gains a b front → Gains b c back → Gains a c (front ++ back)
+pub gains_twice : (a b c : Option (List ℕ)) (front back : List ℕ) → Gains a b front → Gains b c back → Gains a c (front ++ back)
 gains_twice None b c front back first second = let later : Gains None c back = rw (let none : b ≡ None = first in none) at second in later
 gains_twice (Some before) b c front back first second =
     let later : Gains (Some (before ++ front)) c back = rw (let some : b ≡ Some (before ++ front) = first in some) at second in

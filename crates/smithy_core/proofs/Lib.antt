@@ -7,7 +7,10 @@ pub mod GainLemmas
 pub mod GivenLemmas
 pub mod InstantLemmas
 pub mod LowerLemmas
+pub mod OptionLemmas
+pub mod OutsideLemmas
 pub mod PairLemmas
 pub mod TextLemmas
+pub mod YearLemmas
 pub mod ZeroLemmas
 pub mod DayLemmas

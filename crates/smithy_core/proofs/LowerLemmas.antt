@@ -5,7 +5,7 @@ use Rattle.std.specs.declared.alloc.Global.{Global}
 use Rattle.std.proofs.lemmas.Str.Ascii.{lowercase-lowercase}
 use Rattle.smithy_core.specs.TextPairs.{AreLower, inserted, lower, text_pairs, without}
 
-lower_lower : (text : List ℕ) → lower (lower text) ≡ lower text
+pub lower_lower : (text : List ℕ) → lower (lower text) ≡ lower text
 lower_lower [] = refl
 lower_lower (byte ∷ bytes) = rw (lowercase-lowercase byte, lower_lower bytes) refl
 

@@ -6,6 +6,7 @@ use Rattle.std.proofs.lemmas.Str.{encode_ascii, len_utf8_ascii}
 use Rattle.std.proofs.lemmas.Str.Pattern.{drop_at_char}
 use Rattle.std.specs.List.{list_all}
 use Rattle.std.specs.Str.Pattern.{FindsCharSuffix, CutsSuffixes, IsFullyTrimmed, IsTrimEndMatches}
+use Rattle.std.proofs.lemmas.Bool.{and_parts}
 use Rattle.smithy_core.specs.Format.{without_last_zeros}
 
 abbrev are_zeros : List ℕ → Bool
@@ -20,18 +21,10 @@ without-zero : (ds : List ℕ) → without_last_zeros (ds ++ 48 ∷ []) ≡ with
 without-zero [] = refl
 without-zero (d ∷ ds) = ap (λ (b : Bool). cond b [] (d ∷ without_last_zeros (ds ++ 48 ∷ []))) (are_zeros-zero (d ∷ ds)) ∙ ap (λ (rest : List ℕ). cond (are_zeros (d ∷ ds)) [] (d ∷ rest)) (without-zero ds)
 
-and_left : (a b : Bool) → (a && b) ≡ true → a ≡ true
-and_left true b is = refl
-and_left false b is = is
-
-and_right : (a b : Bool) → (a && b) ≡ true → b ≡ true
-and_right true b is = is
-and_right false b is = cc
-
 -- zeros end with a zero
 last_is : (d : ℕ) (ds : List ℕ) → are_zeros (d ∷ ds) ≡ true → (front : List ℕ) × (d ∷ ds ≡ front ++ 48 ∷ [])
-last_is d [] is = ([], ap (λ (n : ℕ). n ∷ []) (eqb-true d 48 (and_left (d == 48) true is)))
-last_is d (e ∷ ds) is = let rest = last_is e ds (and_right (d == 48) (are_zeros (e ∷ ds)) is) in (d ∷ rest.0, ap (λ (xs : List ℕ). d ∷ xs) rest.1)
+last_is d [] is = ([], ap (λ (n : ℕ). n ∷ []) (eqb-true d 48 (and_parts (d == 48) true is).0))
+last_is d (e ∷ ds) is = let rest = last_is e ds (and_parts (d == 48) (are_zeros (e ∷ ds)) is).1 in (d ∷ rest.0, ap (λ (xs : List ℕ). d ∷ xs) rest.1)
 
 -- digits that don't end with a zero
 without_none : (ds : List ℕ) → ((front : List ℕ) → ds ≢ front ++ 48 ∷ []) → without_last_zeros ds ≡ ds

@@ -10,11 +10,11 @@ use Rattle.smithy_http.specs.Escape.{base_set, greedy_set, escaped}
 use Rattle.smithy_http.specs.declared.escape.TheConstants.{BASE_SET, GREEDY_SET}
 
 -- the set of the code escapes the bytes that the test passes
-abbrev Agrees : AsciiSet → (ℕ → Bool) → Type 0
+abbrev pub Agrees : AsciiSet → (ℕ → Bool) → Type 0
 Agrees set test = (byte : ℕ) → should_percent_encode set byte ≡ test byte
 
 -- as far as ASCII goes by computing, and every byte past it is escaped
-agrees : (set : AsciiSet) (test : ℕ → Bool) → agree_below (contains set) test 128 ≡ true → ((byte : ℕ) → 128 ≤ byte → test byte ≡ true) → Agrees set test
+pub agrees : (set : AsciiSet) (test : ℕ → Bool) → agree_below (contains set) test 128 ≡ true → ((byte : ℕ) → 128 ≤ byte → test byte ≡ true) → Agrees set test
 unfolding should_percent_encode
 agrees set test below past byte = elim (cases_order byte 128) [
   | inl same ↦ beyond (omega arith)
@@ -39,7 +39,7 @@ no_plain_or_slash : (byte : ℕ) → 128 ≤ byte → greedy_set byte ≡ true
 no_plain_or_slash byte past = grind (arith, nat_tests)
 
 -- two sets that agree on each byte escape a text to one text
-same_text : (set : AsciiSet) (test : ℕ → Bool) → Agrees set test → (text : List ℕ) → percent_encode set text ≡ escaped test text
+pub same_text : (set : AsciiSet) (test : ℕ → Bool) → Agrees set test → (text : List ℕ) → percent_encode set text ≡ escaped test text
 unfolding percent_encode escaped
 same_text set test same [] = refl
 same_text set test same (byte ∷ text) = rw (same byte) (ap (λ (rest : List ℕ). cond (test byte) (percent_encode_byte byte) (byte ∷ []) ++ rest) (same_text set test same text))

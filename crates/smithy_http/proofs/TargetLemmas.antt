@@ -194,12 +194,12 @@ path_plain kept plain =
       | inr some ↦ rw (ne_eqb (length (split_once_front 63 kept)) 0 some) (plain, omega arith)
     ]
 
-some_byte : (bytes : List ℕ) → 0 < get_or bytes 0 0 → 0 < length bytes
+pub some_byte : (bytes : List ℕ) → 0 < get_or bytes 0 0 → 0 < length bytes
 some_byte [] is = absurd (omega (arith, is))
 some_byte (first ∷ bytes) is = omega arith
 
 -- the part of a text before a byte begins with the first byte of the text, where that is another one
-same_first : (byte : ℕ) (text : List ℕ) → 0 < get_or text 0 0 → get_or text 0 0 ≢ byte → get_or (split_once_front byte text) 0 0 ≡ get_or text 0 0
+pub same_first : (byte : ℕ) (text : List ℕ) → 0 < get_or text 0 0 → get_or text 0 0 ≢ byte → get_or (split_once_front byte text) 0 0 ≡ get_or text 0 0
 same_first byte text some other =
     let past : 1 ≤ index_of byte text =
     index_of_at_least byte text 1 (some_byte text some) λ k h. let first : k ≡ 0 = omega arith in rw first other in

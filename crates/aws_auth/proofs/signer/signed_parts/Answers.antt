@@ -1,8 +1,9 @@
 use Rattle.std.proofs.lemmas.Result.{err_from_is_err_and}
 use Rattle.std.specs.Prelude.{option_copied}
 use Rattle.sigv4.specs.Request.{identity_of}
+use Rattle.sigv4.proofs.RefusalLemmas.{case_able}
 use Rattle.aws_auth.specs.Steps.{params_case}
-use Rattle.aws_auth.proofs.SignerLemmas.{case_able, case_made, refused, signed, unread}
+use Rattle.aws_auth.proofs.SignerLemmas.{case_made, refused, signed, unread}
 use Rattle.aws_auth.proofs.signer.signed_parts.Goals as goal
 
 pub returns-in_err-signable : goal.returns-in_err-signable

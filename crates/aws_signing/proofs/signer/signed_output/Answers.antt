@@ -1,8 +1,10 @@
 use Rattle.std.proofs.lemmas.Result.{err_from_is_err_and}
 use Rattle.std.specs.Prelude.{option_copied}
 use Rattle.sigv4.specs.Request.{identity_of}
+use Rattle.sigv4.proofs.RefusalLemmas.{case_able}
+use Rattle.aws_auth.proofs.SignerLemmas.{unread}
 use Rattle.aws_signing.specs.SigningBy.{text_case}
-use Rattle.aws_signing.proofs.SigningByLemmas.{signs_text, text_case_able, text_case_made, unread}
+use Rattle.aws_signing.proofs.SigningByLemmas.{signs_text, text_case_made}
 use Rattle.aws_signing.proofs.signer.signed_output.Goals as goal
 
 pub returns-in_err-signable : goal.returns-in_err-signable
@@ -18,4 +20,4 @@ returns c =
     let payload = rw (← made.3, c.as_slice.ensures) at c.in_ok-body.ensures in
     let same = text_case_made c.args.request.now (option_copied c.args.payload) params signable made.0 made.2 payload in
     signs_text _ (text_case c.args.request.now (option_copied c.args.payload) params) (identity_of params) _ signable.uri _ made.1 same
-    (text_case_able params signable c.requires.able) c.sign_with_key.ensures
+    (case_able params signable c.requires.able) c.sign_with_key.ensures

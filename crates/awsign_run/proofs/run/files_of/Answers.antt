@@ -1,9 +1,9 @@
 use Rattle.std.proofs.Common.{◌≡◌, ◌++◌, ap, codes, refl, subst, List}
 use Rattle.std.specs.Prelude.{IfOk}
 use Rattle.smithy_core.specs.TextPairs.{last_value}
-use Rattle.env_config.specs.Files.{Place, chosen_places, file_places}
+use Rattle.env_config.specs.Files.{Place, chosen_places, file_places, or_usual}
 use Rattle.env_config.specs.declared.source.EnvConfigFileKind.TheVariants.{Config, Credentials}
-use Rattle.awsign_run.specs.Run.{named_place, or_usual}
+use Rattle.awsign_run.specs.Run.{named_place}
 use Rattle.awsign_run.proofs.run.files_of.Goals as goal
 
 pub returns : goal.returns

@@ -1,10 +1,11 @@
 use Rattle.std.proofs.Common.{◌≡◌, ◌∙◌, ap, sym, subst, List, [], ℕ}
 use Rattle.std.specs.Prelude.{Some, None, OnOk, Option, string_bytes, unwrap_or}
+use Rattle.std.proofs.lemmas.List.{nil_from_length}
 use Rattle.env_config.specs.Kept.{keeps_of}
 use Rattle.env_config.specs.Properties.{Subs, properties_in, subs_in}
 use Rattle.env_config.specs.Sections.{put_subs, value_pieces}
 use Rattle.env_config.specs.Texts.{put, value_under}
-use Rattle.env_config.proofs.GroupLemmas.{filled, no_entries, on_ok, property_found, property_put, property_sorted, property_through, subs_of, unfilled}
+use Rattle.env_config.proofs.GroupLemmas.{filled, on_ok, property_found, property_put, property_sorted, property_through, subs_of, unfilled}
 use Rattle.env_config.proofs.merge.put_property.Goals as goal
 
 pub returns-in-Some : goal.returns-in-Some
@@ -50,7 +51,7 @@ returns-then-is_empty c whole prefix name holds =
     let none = subst (λ (t : List ℕ). value_under view t ≡ None) c.as_str.ensures.value (property_found es c.as_str.result.now None c.in-None.ensures.value) in
     let empty = ap subs_of c.new-subs.ensures.empty in
     let before = empty ∙ sym (ap (λ (o : Option Subs). unwrap_or o []) none) in
-    let after = ap subs_of (no_entries w.entries (c.is_empty.ensures.0 c.if-is_empty.true)) ∙ sym empty in
+    let after = ap subs_of (nil_from_length w.entries (c.is_empty.ensures.0 c.if-is_empty.true)) ∙ sym empty in
     ap (λ m. whole (properties_in m)) c.get_mut.follows.holds-at-none
     ∙ unfilled whole prefix name holds (keeps_of c.args.kept.now) view key (subs_in c.new-subs.result) (subs_in w) (value_pieces c.args.value.now) sorted before after
     (c.in_ok-put_pieces-in-None.ensures (λ (subs : Subs). whole (put view key subs)) prefix name key (holds view key sorted).0)

@@ -2,8 +2,9 @@ use Rattle.std.proofs.Common.{ap}
 use Rattle.std.proofs.lemmas.Result.{err_from_is_err_and}
 use Rattle.sigv4.specs.Body.{payload_text}
 use Rattle.sigv4.specs.Request.{identity_of}
+use Rattle.sigv4.proofs.RefusalLemmas.{case_able}
 use Rattle.firuvaik_c.specs.Signing.{pieces_case}
-use Rattle.firuvaik_c.proofs.SignLemmas.{case_able, case_made, refused, signed, unread}
+use Rattle.firuvaik_c.proofs.SignLemmas.{case_made, refused, signed, unread}
 use Rattle.firuvaik_c.proofs.sign.signed_parts.Goals as goal
 
 pub returns-in_err-signable : goal.returns-in_err-signable

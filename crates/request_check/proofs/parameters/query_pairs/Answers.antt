@@ -1,7 +1,7 @@
 use Rattle.std.proofs.Common.{◌≡◌, [], ℕ, Bor, List, Option, ap, ◌∙◌, unwrap_or}
 use Rattle.http_uri.specs.Uri.{uri_query}
 use Rattle.sigv4.specs.Query.{decoded}
-use Rattle.sigv4.proofs.QueryLemmas.{copied_or}
+use Rattle.smithy_core.proofs.OptionLemmas.{copied_or}
 use Rattle.request_check.proofs.parameters.query_pairs.Goals as goal
 
 pub returns : goal.returns

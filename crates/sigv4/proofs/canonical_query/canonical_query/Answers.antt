@@ -3,10 +3,10 @@ use Rattle.std.proofs.lemmas.List.{map-append}
 use Rattle.std.specs.Prelude.{option_copied}
 use Rattle.http_uri.specs.Uri.{uri_query}
 use Rattle.smithy_core.specs.TextPairs.{text_pairs}
+use Rattle.smithy_core.proofs.OptionLemmas.{copied_or}
 use Rattle.smithy_http.specs.QueryWriter.{escaped_pair}
 use Rattle.sigv4.specs.Canonical.{token_pairs}
 use Rattle.sigv4.specs.Query.{Pair, decoded, decoded_pairs, query}
-use Rattle.sigv4.proofs.QueryLemmas.{copied_or}
 use Rattle.sigv4.proofs.canonical_query.canonical_query.Goals as goal
 
 pub returns : goal.returns

@@ -1,11 +1,12 @@
 use Rattle.std.proofs.Common.{◌≡◌, ◌∙◌, ap, sym, List, [], ℕ}
 use Rattle.std.specs.Prelude.{Some, None, Option, unwrap_or}
 use Rattle.std.specs.BTreeMap.{insert_entry}
+use Rattle.std.proofs.lemmas.List.{nil_from_length}
 use Rattle.env_config.specs.Kept.{keeps_of}
 use Rattle.env_config.specs.Properties.{Subs, names_cmp, others_in, properties_in, sections_in}
 use Rattle.env_config.specs.PropertiesKey.{names_of}
 use Rattle.env_config.specs.Sections.{put_others}
-use Rattle.env_config.proofs.GroupLemmas.{groups_of, no_entries, on_ok, properties_of, section_filled, section_found, section_put, section_sorted, section_through, section_unfilled, whole_at, whole_holds}
+use Rattle.env_config.proofs.GroupLemmas.{groups_of, on_ok, properties_of, section_filled, section_found, section_put, section_sorted, section_through, section_unfilled, whole_at, whole_holds}
 use Rattle.env_config.proofs.properties.Properties.merge.Goals as goal
 
 pub returns-in-Some : goal.returns-in-Some
@@ -53,7 +54,7 @@ returns-then-is_empty c =
     let ordered = section_sorted es section c.get_mut.ensures.ordered in
     let empty = ap properties_of c.new-properties.ensures.empty in
     let before = empty ∙ sym (ap (λ (o : Option (List (List ℕ × Subs))). unwrap_or o []) (section_found es section None c.in-None.ensures.value)) in
-    let after = ap properties_of (no_entries w.entries (c.is_empty.ensures.0 c.if-is_empty.true)) ∙ sym empty in
+    let after = ap properties_of (nil_from_length w.entries (c.is_empty.ensures.0 c.if-is_empty.true)) ∙ sym empty in
     ap (λ m. others_in (groups_of m.entries)) c.get_mut.follows.holds-at-none
     ∙ section_unfilled groups names (keeps_of c.args.kept.now) (properties_in c.new-properties.result) (properties_in w) c.args.pairs ordered before after
     (c.in_ok-put_properties-in-None.ensures (whole_at groups names) names.0 names.1 (whole_holds groups names ordered))
