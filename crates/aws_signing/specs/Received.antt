@@ -44,6 +44,10 @@ pub record MessagesLeft : Type 0 where
 abbrev pub messages_of_bytes : List ℕ → MessagesLeft
 messages_of_bytes bytes = record { bytes = bytes; is_over = false }
 
+-- the bytes are too many, or memory ran out
+abbrev pub RefusesBytes : List ℕ → AwsSigningError → Type 0
+RefusesBytes bytes error = ((2 ^ 64 ≤ length bytes) × (error ≡ StreamTooLong)) ⊎ (error ≡ NoMemory)
+
 -- why bytes that are left begin with no message: they end within a frame, they are no frame, or memory ran out
 abbrev pub HasNoMessage : List ℕ → AwsSigningError → Type 0
 HasNoMessage bytes told =

@@ -1,5 +1,5 @@
 -- The faults of the calls of this crate: those of the crates below, and its own.
-use Rattle.std.specs.Prelude.{ℕ, List, ◌++◌, codes, string_bytes}
+use Rattle.std.specs.Prelude.{ℕ, List, ◌++◌, codes}
 use Rattle.std.specs.Fmt.{decimal}
 use Rattle.eventstream.specs.Error.{error_kind, error_kind_text}
 use Rattle.eventstream.specs.declared.error.Error.{Error}

@@ -1,8 +1,8 @@
-ghost use Rattle.std.specs.Prelude.{◌≡◌, [], IfOk};
+ghost use Rattle.std.specs.Prelude.{◌≡◌, [], IfErr, IfOk};
 ghost use Rattle.std.specs.List.{flat_map};
 ghost use Rattle.eventstream.specs.Decode.{IsUnfinished};
 ghost use Rattle.eventstream.specs.Reading.{first_of};
-ghost use Rattle.aws_signing.specs.Received.{AnswersMessage, EndsReceived, GivesNextMessage, TakesMessageFront, FeedsReceived, messages_of_bytes};
+ghost use Rattle.aws_signing.specs.Received.{AnswersMessage, EndsReceived, GivesNextMessage, TakesMessageFront, FeedsReceived, RefusesBytes, messages_of_bytes};
 
 use crate::fault::AwsSigningError;
 use bytes::Bytes;
@@ -205,7 +205,8 @@ impl ReceivedMessages {
 ///
 /// Those of [`ReceivedEvents::feed`].
 pub fn received(alloc: Global, pieces: Vec<Bytes>) -> Result<ReceivedMessages, AwsSigningError>
-    ensures { IfOk result (λ messages. messages ≡ messages_of_bytes (flat_map (λ piece. piece) pieces.items)) }
+    ensures ok { IfOk result (λ messages. messages ≡ messages_of_bytes (flat_map (λ piece. piece) pieces.items)) }
+    ensures err { IfErr result (RefusesBytes (flat_map (λ piece. piece) pieces.items)) }
 {
     Ok(ReceivedMessages {
         received: fed(alloc, pieces)?,
@@ -215,7 +216,8 @@ pub fn received(alloc: Global, pieces: Vec<Bytes>) -> Result<ReceivedMessages, A
 
 // All pieces, fed.
 fn fed(alloc: Global, pieces: Vec<Bytes>) -> Result<ReceivedEvents, AwsSigningError>
-    ensures { IfOk result (λ received. received ≡ flat_map (λ piece. piece) pieces.items) }
+    ensures ok { IfOk result (λ received. received ≡ flat_map (λ piece. piece) pieces.items) }
+    ensures err { IfErr result (RefusesBytes (flat_map (λ piece. piece) pieces.items)) }
 {
     let mut received = ReceivedEvents::new(alloc);
     for piece in pieces {
