@@ -1,5 +1,5 @@
 //! What a profile has to sign with.
-ghost use Rattle.std.specs.Prelude.{◌≡◌, IfOk, Ok, map, option_map, string_bytes};
+ghost use Rattle.std.specs.Prelude.{◌≡◌, IfOk, Ok, map, string_bytes};
 ghost use Rattle.env_config.specs.Sections.{sections};
 ghost use Rattle.env_config.specs.Selected.{kept_of};
 ghost use Rattle.env_config.specs.Source.{file_of};

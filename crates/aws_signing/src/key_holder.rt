@@ -47,7 +47,7 @@ impl Drop for KeyHolder {
 
 impl Model for KeyHolder {
     ghost use Rattle.std.specs.Prelude.{◌≡◌, string_bytes};
-    ghost use Rattle.smithy_core.specs.Identity.{IsCredentials, secret_of};
+    ghost use Rattle.smithy_core.specs.Identity.{IsCredentials};
     ghost use Rattle.sigv4.specs.Request.{key_id_of, token_of};
     ghost use Rattle.aws_signing.specs.KeyHolder.{HeldKey, IsHeldBy};
 

@@ -6,7 +6,7 @@ ghost use Rattle.aws_signing.specs.Watched.{ChecksEvents, EndsWatched, FeedsWatc
 use crate::fault::AwsSigningError;
 use crate::signer::Signer;
 use bytes::Bytes;
-use chain_watch::{ChainFault, ChainWatch, Watched};
+use chain_watch::{ChainWatch, Watched};
 use smithy_core::{Mem, Message};
 use std::marker::Model;
 

@@ -1,5 +1,5 @@
 //! Writes an upload: its body, whose data is read chunk by chunk, and then its head.
-ghost use Rattle.std.specs.Prelude.{◌≡◌, ◌≤◌, ◌<◌, ◌+◌, ◌++◌, [], ℕ, List, Option, IfErr, IfOk, IsErrOf, IsTrue, MatchResult, OnErr, OnOk, length};
+ghost use Rattle.std.specs.Prelude.{◌≡◌, ◌≤◌, ◌<◌, ◌+◌, ◌++◌, [], ℕ, List, Option, IfErr, IsErrOf, IsTrue, MatchResult, OnErr, OnOk, length};
 ghost use Rattle.http_uri.specs.declared.uri.Uri.{Uri as Target};
 ghost use Rattle.smithy_core.specs.Civil.{is_in_years};
 ghost use Rattle.smithy_core.specs.Moment.{Instant};

@@ -1,5 +1,5 @@
 //! What is sent: the signed request, and how its body is made.
-ghost use Rattle.std.specs.Prelude.{◌≡◌, ◌≤◌, IfOk, string_bytes};
+ghost use Rattle.std.specs.Prelude.{◌≡◌, ◌≤◌, IfOk};
 ghost use Rattle.awsign_run.specs.Chosen.{signs_for_of};
 ghost use Rattle.awsign_chunk.specs.Sent.{AnnouncesBody, IsAnnouncedAs, IsUploadBehind, MakesSent, announced_trailers, sent_options, sent_size, signs_chunks};
 ghost use Rattle.awsign_words.specs.Words.{SignWanted, sign_wanted};

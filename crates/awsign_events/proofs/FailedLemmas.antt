@@ -1,5 +1,5 @@
 -- What the loops of `awsign events` say of the faults that the output counted.
-use Rattle.std.proofs.Common.{◌≡◌, ℕ, sym, ap, ◌∙◌, arith}
+use Rattle.std.proofs.Common.{◌≡◌, ℕ}
 use Rattle.std.specs.Prelude.{IsErrOf, Result, Ok, Err}
 use Rattle.smithy_core.specs.Outside.{CountsFault}
 use Rattle.awsign_run.proofs.CountLemmas.{counts_nothing, counts_on}

@@ -1,5 +1,5 @@
 //! An input of lines of hexadecimal.
-ghost use Rattle.std.specs.Prelude.{◌≡◌, ◌≤◌};
+ghost use Rattle.std.specs.Prelude.{◌≤◌};
 ghost use Rattle.awsign_events.specs.HexInput.{GivesUnhexed, ReadsHex, Unhexes, unhexed};
 
 use crate::status::EventsStatus;

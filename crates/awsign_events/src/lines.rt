@@ -2,7 +2,6 @@
 ghost use Rattle.std.specs.Prelude.{◌≡◌, ◌++◌, IfOk, OnOk};
 ghost use Rattle.std.specs.List.{flat_map, list_all};
 ghost use Rattle.std.specs.String.{string_bytes};
-ghost use Rattle.hex.specs.Hex.{encode_lower};
 ghost use Rattle.awsign_events.specs.EventText.{is_line_byte, is_lined, is_lined_value, is_word_byte, kind_word, lined_header, lined_message, behind_space, spelled_value};
 
 use smithy_core::{DateTime, Header, HeaderValue, Mem, Message};

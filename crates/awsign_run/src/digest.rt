@@ -1,10 +1,10 @@
 //! The digest of data that is read piece by piece.
-ghost use Rattle.std.specs.Prelude.{◌≡◌, ◌≤◌, IfOk, IsErrOf, OnOk, ℕ, List, length};
+ghost use Rattle.std.specs.Prelude.{◌≡◌, ◌≤◌, IfOk, IsErrOf, ℕ, List};
 ghost use Rattle.std.specs.String.{string_bytes};
 ghost use Rattle.hex.specs.Hex.{encode_lower};
 ghost use Rattle.sha2.specs.Hashers.{Holds256};
 ghost use Rattle.sha2.specs.Sha256.{sha256};
-ghost use Rattle.smithy_core.specs.Outside.{IsAtEnd, IsCutOf, RoseOrStands};
+ghost use Rattle.smithy_core.specs.Outside.{RoseOrStands};
 ghost use Rattle.awsign_run.specs.Signing.{DigestsAll, GivesNoEnd};
 
 use sha2::{Digest, Sha256};

@@ -1,5 +1,5 @@
 //! What is said of how a run ended.
-ghost use Rattle.std.specs.Prelude.{◌≡◌, ◌≤◌, ◌-◌, ◌++◌, false, Some, IfOk, codes, map, option_copied, option_map, slice_get};
+ghost use Rattle.std.specs.Prelude.{◌≡◌, ◌≤◌, ◌-◌, ◌++◌, false, Some, IfOk, codes, map, option_copied, slice_get};
 ghost use Rattle.std.specs.String.{string_bytes};
 ghost use Rattle.sigv4.specs.Error.{error_text};
 ghost use Rattle.awsign_run.specs.Saying.{GainsSome, Says, behind_word, fault_reason, faulty_text, no_key_text, no_region_text, status_line, tool_line, unread_data_text, word_text};

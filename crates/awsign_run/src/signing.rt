@@ -1,5 +1,5 @@
 //! The signed request that words ask for, as it is printed.
-ghost use Rattle.std.specs.Prelude.{◌≡◌, ◌||◌, Some, IfOk, codes, map, option_copied, option_map, string_bytes, true, false};
+ghost use Rattle.std.specs.Prelude.{◌≡◌, ◌||◌, Some, IfOk, map, option_copied, string_bytes, false};
 ghost use Rattle.smithy_http.specs.QueryWriter.{SpellsTarget};
 ghost use Rattle.env_config.specs.Source.{file_of};
 ghost use Rattle.sigv4.specs.Settings.{settings_of};
@@ -9,7 +9,7 @@ ghost use Rattle.aws_signing.specs.SigningFaults.{of_signing};
 ghost use Rattle.awsign_run.specs.Chosen.{asked_profile, signs_for_of};
 ghost use Rattle.awsign_run.specs.Faults.{signing_fault};
 ghost use Rattle.awsign_run.specs.Guess.{url_host};
-ghost use Rattle.awsign_run.specs.Signing.{IsAsked, IsPrinted, PrintsAnew, PrintsFor, PrintsSigned, SignsAsked, SignsPrinted, SignsUrl, DecidesAgain, asked_case, asked_form, asked_payload, asked_settings, chosen_signer, expiry, is_long, is_s3, default_payload, usual_settings};
+ghost use Rattle.awsign_run.specs.Signing.{IsAsked, IsPrinted, PrintsAnew, PrintsSigned, SignsAsked, SignsPrinted, SignsUrl, DecidesAgain, asked_case, asked_form, asked_payload, asked_settings, chosen_signer, expiry, is_long, is_s3, default_payload, usual_settings};
 ghost use Rattle.awsign_words.specs.Words.{sign_wanted};
 
 use crate::choosing::signer_for;

@@ -2,7 +2,7 @@
 ghost use Rattle.std.specs.Prelude.{◌≡◌, Some, IfOk, if◌then◌else◌, map, option_map};
 ghost use Rattle.aws_settings.specs.Choice.{lack_in, no_key, no_secret};
 ghost use Rattle.awsign_settings.specs.Own.{own_of};
-ghost use Rattle.awsign_settings.specs.Settings.{settings_lack, used_key, used_key_behind, used_key_of, used_of, used_profile, used_region, used_settings, used_settings_of, used_variable_key};
+ghost use Rattle.awsign_settings.specs.Settings.{settings_lack, used_key, used_key_of, used_of, used_profile, used_region, used_settings, used_settings_of, used_variable_key};
 
 use crate::own::OwnProfile;
 use crate::part::Part;

@@ -1,5 +1,5 @@
 //! The head of a request as it goes over the wire.
-ghost use Rattle.std.specs.Prelude.{◌≡◌, ◌==◌, [], ◌∷◌, ◌++◌, codes, IfOk, OnOk, option_copied};
+ghost use Rattle.std.specs.Prelude.{◌≡◌, ◌==◌, [], ◌++◌, IfOk, OnOk, option_copied};
 ghost use Rattle.std.specs.List.{before_first, flat_map};
 ghost use Rattle.std.specs.String.{string_bytes};
 ghost use Rattle.awsign_text.specs.Head.{target_host_line, behind_authority, field_line, from_path, wire_head, number_sign, origin_form, start_line, wire_line, with_path};

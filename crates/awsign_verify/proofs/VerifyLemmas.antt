@@ -1,5 +1,5 @@
 -- Who signed a request, or why that isn't told.
-use Rattle.std.proofs.Common.{◌≡◌, ℕ, ◌⊎◌, inl, inr, List, Option, Some, None, refl}
+use Rattle.std.proofs.Common.{ℕ, inl, inr, List, refl}
 use Rattle.std.specs.Prelude.{Result, Ok, Err}
 use Rattle.smithy_core.specs.Moment.{Instant}
 use Rattle.smithy_core.specs.declared.request.HttpRequest.{HttpRequest}

@@ -3,7 +3,7 @@ ghost use Rattle.std.specs.Prelude.{◌≡◌, ◌≤◌, ◌==◌, length, reve
 ghost use Rattle.std.specs.List.{after_first, before_first};
 ghost use Rattle.job_text.specs.Lines.{Moves, colon};
 ghost use Rattle.awsign_text.specs.Head.{carriage_return};
-ghost use Rattle.awsign_verify.specs.Message.{CutsEndBlank, CutsFrontBlank, ReadsHead, wire_name, field_step, wire_value, head_drafted, line_text, message_body, message_head, message_request, no_head, skip_blanks, start_step, head_text_step, whole_head, without_blanks};
+ghost use Rattle.awsign_verify.specs.Message.{CutsEndBlank, CutsFrontBlank, ReadsHead, wire_name, field_step, head_drafted, line_text, message_body, message_head, message_request, no_head, skip_blanks, start_step, head_text_step, whole_head, without_blanks};
 
 use awsign_words::is_method;
 use bytes::Bytes;

@@ -1,5 +1,5 @@
 //! A run of `awsign verify`, behind its words.
-ghost use Rattle.std.specs.Prelude.{◌≡◌, ◌≤◌, IfOk, map, string_bytes};
+ghost use Rattle.std.specs.Prelude.{◌≡◌, ◌≤◌, IfOk};
 ghost use Rattle.smithy_core.specs.Given.{Gives};
 ghost use Rattle.smithy_core.specs.Outside.{CountsFault};
 ghost use Rattle.env_config.specs.Loading.{Loaded, StopsAtFile};

@@ -1,5 +1,5 @@
 //! A URL whose path is written as it is.
-ghost use Rattle.std.specs.Prelude.{◌≡◌, ◌<◌, ◌++◌, codes, IfOk};
+ghost use Rattle.std.specs.Prelude.{◌≡◌, ◌<◌, IfOk};
 ghost use Rattle.std.specs.String.{string_bytes};
 ghost use Rattle.job_text.specs.Lines.{texts_of_pair};
 ghost use Rattle.awsign_words.specs.RawPath.{behind_scheme, cut_at, encoded_path, encoded_url, slash, with_host, with_scheme};

@@ -1,4 +1,4 @@
-ghost use Rattle.std.specs.Prelude.{◌≡◌, ◌+◌, ◌*◌, ◌^◌, ◌<◌, ◌≤◌, drop, length, string_bytes, Err};
+ghost use Rattle.std.specs.Prelude.{◌≡◌, ◌+◌, ◌^◌, ◌<◌, ◌≤◌, drop, length, string_bytes, Err};
 ghost use Rattle.chain_watch.specs.Position.{ClosesAt, FindsFrame, open_at};
 ghost use Rattle.chain_watch.specs.Walk.{ending};
 ghost use Rattle.chain_watch.specs.Watch.{frame_wants};

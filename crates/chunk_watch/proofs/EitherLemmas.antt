@@ -1,12 +1,12 @@
 -- The end of a body is read as it is, or without loose line feeds.
-use Rattle.std.proofs.Common.{◌≡◌, ◌⊎◌, ℕ, ◌++◌, Bool, true, false, cond, List, [], ◌∷◌, inl, inr, refl, sym, ap, ◌∙◌, subst, append_assoc, append-nil}
-use Rattle.std.specs.Prelude.{Result, Ok, Err, String, string_bytes}
+use Rattle.std.proofs.Common.{◌≡◌, ℕ, ◌++◌, Bool, true, false, cond, List, [], ◌∷◌, inl, inr, sym, ap, ◌∙◌, subst, append_assoc, append-nil}
+use Rattle.std.specs.Prelude.{Result, Ok, Err, String}
 use Rattle.std.specs.declared.alloc.Global.{Global}
 use Rattle.aws_chunked.specs.Body.{Trailer}
 use Rattle.chunk_watch.specs.EndRead.{ReadsEitherEnd, ReadsEnd}
 use Rattle.chunk_watch.specs.Trailers.{IsNoEnd, is_loose, plain_after, plain_lines}
 use Rattle.chunk_watch.specs.declared.fault.ChunkFault.{ChunkFault}
-use Rattle.chunk_watch.specs.declared.fault.ChunkFault.TheVariants.{BadTrailers, NoMemory}
+use Rattle.chunk_watch.specs.declared.fault.ChunkFault.TheVariants.{BadTrailers}
 
 abbrev Reading : Type 0
 Reading = Result (List Trailer × String Global) ChunkFault

@@ -1,5 +1,5 @@
 -- The properties of other sections, group by group: what is put in a property is put at its key, and a look-up finds it.
-use Rattle.std.proofs.Common.{◌≡◌, ◌∙◌, ℕ, true, arith, List, [], map, String, string_bytes, string_cmp, Global, Ordering, Less, Equal, Greater, is_eq, refl, sym, ap, ap₂}
+use Rattle.std.proofs.Common.{◌≡◌, ◌∙◌, ℕ, true, List, [], map, String, string_bytes, string_cmp, Global, Ordering, Less, Equal, Greater, is_eq, refl, sym, ap, ap₂}
 use Rattle.std.specs.Prelude.{Option, Some, None, option_map, unwrap_or, Result, Ok, Err, OnOk, OnErr}
 use Rattle.std.specs.Ordering.{ordering_then}
 use Rattle.std.specs.Option.{option_and_then, option_cmp}

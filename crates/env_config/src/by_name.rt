@@ -41,7 +41,6 @@ impl<V: Clone + Drop> ByName<V> {
 
 // Names with equal values are equal, in whatever order they came.
 impl<V: PartialEq> PartialEq for ByName<V> {
-    ghost use Rattle.std.specs.Prelude.{◌&&◌, bytes_eq};
     ghost use Rattle.std.proofs.Common.{rules};
     ghost use Rattle.std.specs.Cmp.{and_per, on_per, partial_equiv_from_equiv};
     ghost use Rattle.std.specs.Cmp.Lexicographic.{lists_per, nat_list_eq_equiv};

@@ -1,6 +1,5 @@
 ghost use Rattle.std.specs.Prelude.{◌≡◌, map};
 ghost use Rattle.std.specs.List.{list_all};
-ghost use Rattle.std.specs.String.{string_bytes};
 ghost use Rattle.env_config.specs.Sections.{has_profile_default, heading_of, is_identifier, is_identifier_byte, is_profile_default, is_taken_from};
 ghost use Rattle.env_config.specs.Heading.{heading_seen};
 ghost use Rattle.env_config.specs.Latest.{form_of};

@@ -1,8 +1,8 @@
-ghost use Rattle.std.specs.Prelude.{◌≡◌, ◌&&◌, codes, bytes_eq, map};
+ghost use Rattle.std.specs.Prelude.{◌≡◌, ◌&&◌, bytes_eq, map};
 ghost use Rattle.std.specs.List.{list_any};
 ghost use Rattle.smithy_core.specs.TextPairs.{lower};
 ghost use Rattle.env_config.specs.Heading.{heading_seen};
-ghost use Rattle.env_config.specs.Kept.{has_heading, is_kept_key, is_kept_profile, is_kept_sub, keeps_of};
+ghost use Rattle.env_config.specs.Kept.{has_heading, is_kept_profile, is_kept_sub, keeps_of};
 
 use crate::heading::Heading;
 use smithy_core::is_lower_of;

@@ -1,4 +1,3 @@
-ghost use Rattle.std.specs.Prelude.{◌≡◌};
 ghost use Rattle.env_config.specs.LastProperty.{MakesLast, TakesStep, TestsSubProperty, last_of};
 ghost use Rattle.env_config.specs.Line.{property_of};
 ghost use Rattle.env_config.specs.Raw.{begun_property, continued};

@@ -1,7 +1,7 @@
 ghost use Rattle.std.specs.Prelude.{◌≡◌, ◌≤◌, ℕ, List, Some, IfErr, IfOk, option_copied};
 ghost use Rattle.std.specs.String.{string_bytes};
 ghost use Rattle.env_config.specs.Files.{file_place, file_places};
-ghost use Rattle.env_config.specs.Loading.{Loads, ReadsDefault, ReadsOne, ReadsPath, after_home_sign, default_path, expanded, is_below_home, selected_profile, utf8_or_empty, usual_path, path_variable};
+ghost use Rattle.env_config.specs.Loading.{Loads, ReadsDefault, ReadsOne, ReadsPath, after_home_sign, default_path, expanded, is_below_home, utf8_or_empty, usual_path, path_variable};
 ghost use Rattle.env_config.specs.Files.Place.{At, Usual};
 ghost use Rattle.env_config.specs.declared.load_fault.EnvConfigFileLoadError.TheVariants.{NoMemory};
 
@@ -11,7 +11,7 @@ use crate::load_fault::{CouldNotReadConfigFile, EnvConfigFileLoadError};
 use crate::source::{EnvConfigFileKind, File, Source};
 use crate::text::joined;
 use smithy_core::{Disk, DiskError, Env, Mem};
-use std::alloc::{AllocError, Global};
+use std::alloc::Global;
 
 /// The texts of the files, and the name of the profile that `AWS_PROFILE` selects, or `default`.
 ///

@@ -2,7 +2,7 @@ ghost use Rattle.std.specs.Prelude.{◌≡◌, None, List, ℕ, IfOk, OnOk, opti
 ghost use Rattle.env_config.specs.Kept.{keeps_of};
 ghost use Rattle.env_config.specs.LastProperty.{TakesStep, last_of};
 ghost use Rattle.env_config.specs.Line.{property_of, section_name};
-ghost use Rattle.env_config.specs.Raw.{Keeps, State, begun_property, continued_or, opened, profile_line_step, raw, section_step, start, within_section};
+ghost use Rattle.env_config.specs.Raw.{Keeps, State, begun_property, continued_or, opened, profile_line_step, raw, section_step, within_section};
 ghost use Rattle.env_config.specs.Reader.{HandsOn, HasHanded, StandsForLines, ReadsInto, ReadsStep, given_step, with_pending};
 ghost use Rattle.env_config.specs.Texts.{Named, nothing_named};
 

@@ -1,4 +1,4 @@
-ghost use Rattle.std.specs.Prelude.{◌≡◌, ◌≤◌, IfOk, OnErr, OnOk};
+ghost use Rattle.std.specs.Prelude.{◌≡◌, ◌≤◌, IfOk, OnErr};
 ghost use Rattle.event_io.specs.Adapter.{Frames, FramesMessage, IsAdapterCopy, IsOpen, KeepsMarshallers, Marshals, Polls, PollsOpen, TakesMoment, NamesSendWant, item_source_of, left_by, new_adapter, adapter_parts};
 
 use crate::adapter_fault::{AdapterFault, SendError};

@@ -1,4 +1,4 @@
-ghost use Rattle.std.specs.Prelude.{◌≡◌, ℕ, List, [], ◌∷◌, ◌++◌, Option, Some, None, Result, Ok, Err, All};
+ghost use Rattle.std.specs.Prelude.{◌≡◌, ℕ, List, [], ◌∷◌, ◌++◌, None, Result, Ok, Err, All};
 ghost use Rattle.smithy_core.specs.Message.{Parts};
 ghost use Rattle.smithy_core.specs.Moment.{Instant};
 ghost use Rattle.smithy_core.specs.declared.sdk_error.SdkError.TheVariants.{NoMemory};

@@ -1,5 +1,4 @@
 ghost use Rattle.std.specs.Prelude.{◌≡◌, ◌<◌, ◌||◌, length, IfErr, IfOk, None};
-ghost use Rattle.smithy_core.specs.Message.{Parts};
 ghost use Rattle.smithy_core.specs.declared.outside.frame_part.FramePart.TheVariants.{Data};
 ghost use Rattle.eventstream.specs.Frame.{most_frame};
 ghost use Rattle.event_io.specs.Frames.{one_if_idle};

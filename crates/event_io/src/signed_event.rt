@@ -1,5 +1,4 @@
 ghost use Rattle.std.specs.Prelude.{◌≡◌, IfOk};
-ghost use Rattle.smithy_core.specs.Message.{Parts};
 ghost use Rattle.eventstream.specs.Error.{error_kind};
 ghost use Rattle.eventstream.specs.Link.{carried_date};
 ghost use Rattle.eventstream.specs.Texts.{Tells};

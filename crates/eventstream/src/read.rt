@@ -1,8 +1,8 @@
-ghost use Rattle.std.specs.Prelude.{◌≡◌, ℕ, ◌+◌, ◌-◌, ◌≤◌, ◌<◌, ◌^◌, ◌++◌, length, take, drop, IfOk, IfSome, OnOk};
+ghost use Rattle.std.specs.Prelude.{◌≡◌, ◌+◌, ◌-◌, ◌≤◌, ◌<◌, ◌^◌, ◌++◌, length, take, drop, IfOk, IfSome, OnOk};
 ghost use Rattle.mac_core.specs.Crc.{after_bytes, before_any, remainder};
 ghost use Rattle.eventstream.specs.Frame.{least_frame};
 ghost use Rattle.seg_buf.specs.Segments.{prelude_len};
-ghost use Rattle.eventstream.specs.Read.{AreFit, IsSumOf, headers_of, announced, checked_message, read, read_frame, u32_at, GivesRead, GivesMessage, TakesMessage};
+ghost use Rattle.eventstream.specs.Read.{AreFit, IsSumOf, announced, checked_message, read, read_frame, u32_at, GivesRead, GivesMessage, TakesMessage};
 
 mod header;
 mod headers;

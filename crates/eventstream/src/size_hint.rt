@@ -1,4 +1,4 @@
-ghost use Rattle.std.specs.Prelude.{◌≡◌, ℕ, ◌+◌, ◌-◌, ◌^◌, min, None, length, sum_by};
+ghost use Rattle.std.specs.Prelude.{◌≡◌, ◌+◌, ◌-◌, ◌^◌, min, None, length, sum_by};
 ghost use Rattle.smithy_core.specs.Message.{Parts};
 ghost use Rattle.eventstream.specs.Frame.{frame, unframed};
 ghost use Rattle.eventstream.specs.SizeHint.{header_width, size_hint, value_width};

@@ -1,6 +1,5 @@
 -- How long a frame is, and where its parts stand.
-use Rattle.std.proofs.Common.{◌≡◌, ◌⊎◌, ℕ, ◌+◌, ◌-◌, ◌<◌, ◌≤◌, nat_lt, true, false, List, [], ◌∷◌, ◌++◌, length, take, drop, All, Option, Some, None, Result, Ok, Err, inl, inr, refl, subst, sym, ap, ◌∙◌, append_assoc, arith}
-use Rattle.std.specs.Prelude.{if◌then◌else◌}
+use Rattle.std.proofs.Common.{◌≡◌, ◌⊎◌, ℕ, ◌+◌, ◌-◌, ◌≤◌, nat_lt, true, false, List, [], ◌∷◌, ◌++◌, length, take, drop, All, Option, Some, None, Result, Ok, Err, inl, inr, refl, subst, sym, ap, ◌∙◌, append_assoc, arith}
 use Rattle.std.specs.Int.{w16, w128, to_be_bytes}
 use Rattle.std.proofs.lemmas.Bool.{lt-ltb}
 use Rattle.std.proofs.lemmas.List.{drop_at, length-append, length-take-le, take-append-drop, take_all, take_at}
@@ -23,7 +22,6 @@ use Rattle.chain_watch.specs.Chain.{IsByte}
 use Rattle.chain_watch.proofs.SpelledLemmas.{read_split}
 use Rattle.firuvaik_c.specs.Faults.{frame_fault, no_memory}
 use Rattle.firuvaik_c.specs.Frames.{DescribeHeaders, DescribesMessage, DescribesValue, all_places, piece_at, header_place, prelude_length, value_shape}
-use Rattle.firuvaik_c.specs.declared.fault.Fault.{Fault}
 use Rattle.firuvaik_c.specs.declared.frames.HeaderPlace.{HeaderPlace}
 
 -- ## The length

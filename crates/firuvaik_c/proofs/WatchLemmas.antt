@@ -1,17 +1,16 @@
 -- What the watch of a chain says of a frame alone.
-use Rattle.std.proofs.Common.{◌≡◌, ◌⊎◌, ℕ, ◌+◌, ◌-◌, ◌≤◌, ◌*◌, ◌==◌, nat_lt, Bool, true, false, List, [], ◌∷◌, length, take, drop, Option, Some, None, Ok, Err, inl, inr, refl, sym, ap, ◌∙◌, option_map, arith}
-use Rattle.std.specs.Prelude.{Result, ◌&&◌, ◌≢◌, bytes_eq, codes, if◌then◌else◌}
+use Rattle.std.proofs.Common.{◌≡◌, ◌⊎◌, ℕ, ◌+◌, ◌-◌, ◌≤◌, ◌==◌, nat_lt, Bool, true, false, List, [], ◌∷◌, length, take, drop, Option, Some, None, Ok, Err, inl, inr, refl, sym, ap, ◌∙◌, option_map, arith}
+use Rattle.std.specs.Prelude.{Result, ◌&&◌, bytes_eq, codes, if◌then◌else◌}
 use Rattle.std.specs.Option.{option_and_then}
 use Rattle.std.specs.Str.{is_utf8}
 use Rattle.std.proofs.Math.Seq.{drop-length}
-use Rattle.std.proofs.lemmas.Bool.{eq-eqb, eqb-true, ltb-false, ne_eqb}
+use Rattle.std.proofs.lemmas.Bool.{eq-eqb, eqb-true, ltb-false}
 use Rattle.std.proofs.lemmas.List.{length-drop, take_all}
 use Rattle.hex.specs.Hex.{encode_lower}
 use Rattle.smithy_core.specs.Header.{Header}
 use Rattle.smithy_core.specs.HeaderValue.{byte_array_of}
 use Rattle.smithy_core.specs.Message.{Parts}
 use Rattle.smithy_core.specs.Moment.{Instant}
-use Rattle.smithy_core.specs.declared.header.HeaderValue.{HeaderValue}
 use Rattle.eventstream.specs.Bind.{◌>>=◌}
 use Rattle.eventstream.specs.Key.{Signer}
 use Rattle.eventstream.specs.Link.{link_code, carried_date}
@@ -22,7 +21,7 @@ use Rattle.eventstream.specs.declared.error.ErrorKind.TheVariants.{InvalidMessag
 use Rattle.eventstream.specs.declared.read.lengths.Lengths.{Lengths}
 use Rattle.eventstream.proofs.FrontLemmas.{announced_prelude, first_whole, prelude_told}
 use Rattle.eventstream.proofs.TestLemmas.{bound, ok_same, refused_or}
-use Rattle.chain_watch.specs.Walk.{Passed, carried, carried_code, compared, frame_test, inner_event, seed_point, signed_moment, stays, unclosed, walk, walk_frames, walk_onto, walk_passed, walk_tested}
+use Rattle.chain_watch.specs.Walk.{Passed, carried, carried_code, frame_test, inner_event, signed_moment, stays, walk_frames, walk_onto, walk_passed, walk_tested}
 use Rattle.chain_watch.specs.Watch.{Feeds, Watching, new_watch, state, unwalked}
 use Rattle.chain_watch.specs.declared.chain_fault.ChainFault.{ChainFault}
 use Rattle.chain_watch.specs.declared.chain_fault.ChainFault.TheVariants.{NoMemory, NotChain}

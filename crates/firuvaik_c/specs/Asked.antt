@@ -22,7 +22,6 @@ use Rattle.firuvaik_c.specs.declared.lent.Field.{Field}
 use Rattle.firuvaik_c.specs.declared.lent.Request.{Request}
 use Rattle.firuvaik_c.specs.declared.lent.Settings.{Settings}
 use Rattle.firuvaik_c.specs.declared.lent.Signer.{Signer}
-use Rattle.firuvaik_c.specs.declared.lent.Text.{Text}
 
 -- the flag is one of the sum
 abbrev pub has_flag : ℕ → ℕ → Bool

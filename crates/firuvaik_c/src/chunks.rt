@@ -1,5 +1,5 @@
 //! An upload in signed chunks.
-ghost use Rattle.std.specs.Prelude.{◌≡◌, None, Some, Result, length};
+ghost use Rattle.std.specs.Prelude.{Some, Result, length};
 ghost use Rattle.aws_chunked.specs.Text.{head_text};
 ghost use Rattle.sigv4.specs.Chunk.{chunk_signature, trailer_signature};
 ghost use Rattle.chunk_watch.specs.Trailers.{trailers_text};

@@ -1,9 +1,9 @@
 //! The frame of a message.
-ghost use Rattle.std.specs.Prelude.{◌≡◌, ◌⊎◌, ◌++◌, ◌∷◌, ℕ, [], true, false, map, option_map, length, OnOk, Result, MatchResult, Vec, if◌then◌else◌, Ok, Err};
+ghost use Rattle.std.specs.Prelude.{◌≡◌, ◌⊎◌, ◌++◌, ◌∷◌, ℕ, [], true, false, map, option_map, OnOk, Result, MatchResult, Vec, Ok, Err};
 ghost use Rattle.std.specs.List.{list_all};
-ghost use Rattle.std.specs.Int.{w8, w16, w32, w128};
+ghost use Rattle.std.specs.Int.{w8, w16, w32};
 ghost use Rattle.std.specs.declared.alloc.Global.{Global};
-ghost use Rattle.smithy_core.specs.declared.header.HeaderValue.TheVariants.{Byte as IsByte, Int16 as IsInt16, Int32 as IsInt32, Uuid as IsUuid, String as IsText};
+ghost use Rattle.smithy_core.specs.declared.header.HeaderValue.TheVariants.{Byte as IsByte, Int16 as IsInt16, Int32 as IsInt32};
 ghost use Rattle.eventstream.specs.Read.{big_endian};
 ghost use Rattle.job_text.specs.Numbers.{if_fits};
 ghost use Rattle.firuvaik_c.specs.Answers.{LendsMade};

@@ -3,10 +3,10 @@ use Rattle.std.proofs.Common.{◌≡◌, ℕ, zero, suc, ◌+◌, ◌*◌, ◌/�
 use Rattle.std.specs.Prelude.{bit_xor}
 use Rattle.std.proofs.lemmas.Bool.{agree_below, agree_below_at, cases_lt}
 use Rattle.std.proofs.Math.Pow.{pow_mono}
-use Rattle.std.proofs.lemmas.Nat.{mul-le, pow_pos, xor_block, xor_lt, xor_comm}
+use Rattle.std.proofs.lemmas.Nat.{mul-le, pow_pos, xor_block, xor_comm}
 use Rattle.std.proofs.lemmas.Grind.{pow_more}
 use lib.Bits.{xor_assoc, xor_self, xor_zero_r}
-use Rattle.mac_core.specs.Crc.{after_bit, after_bits, after_bytes}
+use Rattle.mac_core.specs.Crc.{after_bits, after_bytes}
 use Rattle.mac_core.specs.declared.powers.TheConstants.{POWERS}
 use Rattle.mac_core.proofs.CrcLemmas.{bits_below}
 use Rattle.mac_core.proofs.LinearLemmas.{bytes_linear, in_place, joined, linear, none_left}

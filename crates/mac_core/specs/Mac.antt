@@ -1,5 +1,5 @@
 -- HMAC (RFC 2104) over SHA-256 (FIPS 180-4, as the crate `sha2` defines it).
-use Rattle.std.specs.Prelude.{◌≡◌, ℕ, ◌-◌, List, ◌++◌, length, map, replicate, bit_xor, nat_lt, if◌then◌else◌}
+use Rattle.std.specs.Prelude.{ℕ, ◌-◌, List, ◌++◌, length, map, replicate, bit_xor, nat_lt, if◌then◌else◌}
 use Rattle.sha2.specs.Sha256.{sha256}
 use Rattle.sha2.specs.Hashers.{Holds256}
 use Rattle.mac_core.specs.declared.hmac.HmacSha256.{HmacSha256}

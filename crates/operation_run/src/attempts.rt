@@ -1,4 +1,4 @@
-ghost use Rattle.std.specs.Prelude.{◌≡◌, ◌≤◌, IsErrOf, unwrap_or, option_map};
+ghost use Rattle.std.specs.Prelude.{◌≡◌, ◌≤◌, IsErrOf};
 ghost use Rattle.smithy_core.specs.Given.{Gives};
 ghost use Rattle.smithy_core.specs.Outside.{RoseOrStands};
 ghost use Rattle.operation_run.specs.Again.{most_attempts};

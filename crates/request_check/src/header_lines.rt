@@ -1,6 +1,6 @@
 //! The lines of the signed headers in a canonical text, which goes to its digest piece by piece: with names that are listed many
 //! times it is many times as long as the request.
-ghost use Rattle.std.specs.Prelude.{◌≡◌, ◌++◌, ℕ, List, codes, OnOk, option_copied};
+ghost use Rattle.std.specs.Prelude.{◌++◌, ℕ, List, codes, OnOk, option_copied};
 ghost use Rattle.std.specs.List.{flat_map};
 ghost use Rattle.sigv4.specs.Canonical.{given_headers, header_line, joined_values, with_optional};
 ghost use Rattle.sigv4.specs.Digest.{HoldsText};

@@ -1,4 +1,4 @@
-ghost use Rattle.std.specs.Prelude.{ℕ, List, None, IsSome, IfOk, MatchBool, ◌≡◌, string_bytes};
+ghost use Rattle.std.specs.Prelude.{None, IsSome, IfOk, MatchBool, ◌≡◌};
 ghost use Rattle.smithy_core.specs.Civil.{IsInYears};
 ghost use Rattle.smithy_core.specs.TextPairs.{text_pairs};
 ghost use Rattle.smithy_http.specs.Target.{target_of};

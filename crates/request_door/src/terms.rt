@@ -1,4 +1,4 @@
-ghost use Rattle.std.specs.Prelude.{◌≡◌, ◌++◌, codes, IfOk, MatchBool, string_bytes};
+ghost use Rattle.std.specs.Prelude.{◌≡◌, IfOk, MatchBool, string_bytes};
 ghost use Rattle.request_door.specs.DoorCarried.{texts_carried};
 ghost use Rattle.request_door.specs.DoorTerms.{LacksEnd, PassesScope, ReadsDoorTerms, TestsTime, good_from, good_until, region_end, service_end, stated_seconds, stated_terms};
 

@@ -1,4 +1,4 @@
-ghost use Rattle.std.specs.Prelude.{◌≡◌, ℕ, ◌+◌, ◌-◌, ◌^◌, ◌<◌, ◌≤◌, List, [], ◌++◌, length, take, drop, slice_index, min, option_copied, IsOk, IfOk, IfSome, OnOk, OnErr};
+ghost use Rattle.std.specs.Prelude.{◌≡◌, ◌+◌, ◌-◌, ◌^◌, ◌<◌, ◌≤◌, [], ◌++◌, length, take, drop, slice_index, min, option_copied, IsOk, IfOk, IfSome, OnOk, OnErr};
 ghost use Rattle.seg_buf.specs.Segments.{LieIn, cut, first_segment, prelude_len, with_segment};
 
 use bytes::Bytes;

@@ -18,7 +18,6 @@ use Rattle.signed_stream.specs.declared.command.check.CheckOption.TheVariants.{N
 use Rattle.signed_stream.specs.declared.command.chunk.ChunkValue.{ChunkValue}
 use Rattle.signed_stream.specs.declared.command.stream.StreamOption.{StreamOption}
 use Rattle.signed_stream.specs.declared.command.stream.StreamOption.TheVariants.{Name, At, Expires, TokenName, Skew, OfProfile}
-use Rattle.signed_stream.specs.declared.command.profile.ProfileOption.{ProfileOption}
 use Rattle.signed_stream.specs.declared.form.Form.{Form}
 use Rattle.signed_stream.specs.declared.form.Form.TheVariants.{Raw, HexLines}
 

@@ -13,7 +13,7 @@ use aws_auth::{
     SigV4Signer, SigV4SigningError, SigningInputs,
 };
 use sigv4::{SigningError, SigningSettings};
-use smithy_core::{HttpRequest, Identity, Mem, Moment, Region, SigningName, copied_text};
+use smithy_core::{HttpRequest, Identity, Moment, Region, SigningName, copied_text};
 use std::alloc::Global;
 
 /// The request, signed, and what signs the messages that follow it.

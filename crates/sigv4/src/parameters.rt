@@ -1,4 +1,4 @@
-ghost use Rattle.std.specs.Prelude.{◌≡◌, ◌<◌, ℕ, List, length, OnOk};
+ghost use Rattle.std.specs.Prelude.{◌≡◌, ◌<◌, ℕ, List, OnOk};
 ghost use Rattle.smithy_core.specs.TextPairs.{text_pairs};
 ghost use Rattle.smithy_http.specs.QueryWriter.{BuildsText, SpellsTarget};
 ghost use Rattle.smithy_http.specs.Target.{target_of};

@@ -3,7 +3,6 @@ ghost use Rattle.std.specs.List.{list_all};
 ghost use Rattle.std.specs.String.{string_bytes};
 ghost use Rattle.hex.specs.Hex.{encode_lower};
 ghost use Rattle.mac_core.specs.Mac.{mac};
-ghost use Rattle.sha2.specs.Sha256.{sha256};
 ghost use Rattle.smithy_core.specs.Civil.{IsInYears, stamp};
 ghost use Rattle.eventstream.specs.Key.{scope, signing_key};
 ghost use Rattle.eventstream.specs.Link.{begun_lines};

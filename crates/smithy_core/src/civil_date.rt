@@ -1,4 +1,4 @@
-ghost use Rattle.std.specs.Prelude.{◌≡◌, ◌+◌, ◌*◌, ◌/◌, ◌%◌, ◌<◌, ◌≤◌, MatchBool, MatchOption, bytes_eq};
+ghost use Rattle.std.specs.Prelude.{◌≡◌, ◌+◌, ◌/◌, ◌%◌, ◌<◌, MatchBool, MatchOption, bytes_eq};
 ghost use Rattle.smithy_core.specs.Civil.{IsInYears, civil_after, civil_of, date, day_number, is_in_years, weekday};
 
 use crate::civil_text::Civil;

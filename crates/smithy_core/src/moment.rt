@@ -1,4 +1,4 @@
-ghost use Rattle.std.specs.Prelude.{◌≡◌, ℕ, ◌<◌, ◌/◌, ◌+ℤ◌, ◌*ℤ◌, pos, FitsSigned, MatchResult};
+ghost use Rattle.std.specs.Prelude.{◌≡◌, ◌<◌, ◌/◌, ◌+ℤ◌, ◌*ℤ◌, pos, FitsSigned, MatchResult};
 ghost use Rattle.std.specs.Int.{w64};
 ghost use Rattle.smithy_core.specs.Moment.{at_ms, at_nanos, floor_ms, if_i64, shifted, total_nanos, IsNanos};
 

@@ -1,5 +1,5 @@
 -- What a source of given frames answers.
-use Rattle.std.specs.Prelude.{ℕ, ◌≤◌, length}
+use Rattle.std.specs.Prelude.{◌≤◌, length}
 use Rattle.smithy_core.specs.declared.outside.frame_part.Polled.{Polled}
 use Rattle.smithy_core.specs.declared.outside.frame_part.Polled.TheVariants.{Data, Trailers, NoMemory}
 

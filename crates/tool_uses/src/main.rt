@@ -32,7 +32,6 @@ use aws_intercept::{
     ServiceClockSkewInterceptor,
 };
 use aws_signing::Signer;
-use bytes::Bytes;
 use chain_watch::ChainWatch;
 use smithy_core::{
     CalmDisk, Credentials, Env, ErrorMetadata, FixedClock, Headers, HttpRequest, HttpResponse,

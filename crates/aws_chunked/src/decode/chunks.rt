@@ -1,4 +1,4 @@
-ghost use Rattle.std.specs.Prelude.{◌≡◌, ◌≤◌};
+ghost use Rattle.std.specs.Prelude.{◌≡◌};
 ghost use Rattle.aws_chunked.specs.Rests.{ReadsChunks, ReadsData, ReadsHeadEnd, most_after};
 
 use crate::decode::expecting::{begins_with, expect};

@@ -1,4 +1,4 @@
-ghost use Rattle.std.specs.Prelude.{◌≡◌, ◌+◌, ◌*◌, ◌≤◌, ◌<◌};
+ghost use Rattle.std.specs.Prelude.{◌+◌, ◌*◌, ◌≤◌, ◌<◌};
 ghost use Rattle.aws_chunked.specs.Reading.{ReadsFirstDigit, ReadsLength, ReadsDigit, AddsDigit};
 
 use crate::decode::fault::{PartFault, bad_at};

@@ -1,4 +1,4 @@
-ghost use Rattle.std.specs.Prelude.{◌≡◌, IfOk};
+ghost use Rattle.std.specs.Prelude.{IfOk};
 ghost use Rattle.aws_intercept.specs.Build.{IsSameBuild};
 
 use crate::user_agent::metadata::AdditionalMetadata;

@@ -1,5 +1,5 @@
-ghost use Rattle.std.specs.Prelude.{◌≡◌, ◌<◌, length, OnOk};
-ghost use Rattle.std.specs.Int.{byte_len, w8, w16, w32, w64, w128, cast_signed};
+ghost use Rattle.std.specs.Prelude.{◌<◌, length, OnOk};
+ghost use Rattle.std.specs.Int.{w8, w16, w32, w64, w128, cast_signed};
 ghost use Rattle.smithy_core.specs.Moment.{at_ms};
 ghost use Rattle.smithy_core.specs.declared.header.HeaderValue.TheVariants.{Byte, Int16, Int32, Int64, Timestamp, Uuid};
 ghost use Rattle.eventstream.specs.Read.{array_of, big_endian, counted_of, front_of, header_of, header_name_of, number_of, text_value_of, value_of, GivesFront};

@@ -1,4 +1,4 @@
-ghost use Rattle.std.specs.Prelude.{◌≡◌, ◌-◌, ◌≤◌, ◌<◌, length, OnOk};
+ghost use Rattle.std.specs.Prelude.{◌-◌, ◌≤◌, ◌<◌, length, OnOk};
 ghost use Rattle.eventstream.specs.Read.{header_within, headers_of, GivesFront, GivesHeaders};
 
 use crate::error::{Error, ErrorKind};

@@ -1,5 +1,4 @@
-ghost use Rattle.std.specs.Prelude.{◌≡◌, ℕ, ◌+◌, ◌≤◌, length, IfOk};
-ghost use Rattle.std.specs.Int.{w32};
+ghost use Rattle.std.specs.Prelude.{◌≡◌, ◌+◌, ◌≤◌, length, IfOk};
 ghost use Rattle.seg_buf.specs.Segments.{prelude_len};
 ghost use Rattle.eventstream.specs.Read.{AreFit, big_endian, read_prelude, u32_at, announced};
 

@@ -8,7 +8,7 @@ use smithy_core::Moment;
 
 /// Takes the options of a command one by one.
 pub trait TakeOption<'a>: Drop {
-    ghost use Rattle.std.specs.Prelude.{◌≡◌, ℕ, List, Option};
+    ghost use Rattle.std.specs.Prelude.{◌≡◌, Option};
     ghost use Rattle.job_text.specs.Words.{TakesWord};
     ghost use Rattle.signed_stream.specs.OptionWords.{OptionRules};
 

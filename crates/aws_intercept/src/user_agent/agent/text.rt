@@ -1,4 +1,4 @@
-ghost use Rattle.std.specs.Prelude.{◌≡◌, ◌++◌, IfOk, OnOk, List, ℕ, codes, flat_map, map, option_map, option_to_list, string_bytes};
+ghost use Rattle.std.specs.Prelude.{◌≡◌, ◌++◌, IfOk, OnOk, codes, map, option_map, option_to_list, string_bytes};
 ghost use Rattle.aws_intercept.specs.Agent.{agent_text, metric_part, spaced, system_text};
 ghost use Rattle.aws_intercept.specs.Metadata.{additional_text, framework_text, with_value};
 
@@ -8,7 +8,6 @@ use crate::user_agent::metadata::AdditionalMetadata;
 use crate::user_agent::metric::BusinessMetric;
 use crate::user_agent::metric_ids::fitting_ids;
 use smithy_core::{AppName, Mem};
-use std::alloc::Global;
 
 /// The most bytes of the ids of metrics.
 const MOST_ID_BYTES: usize = 1024;

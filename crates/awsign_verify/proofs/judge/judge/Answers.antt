@@ -1,4 +1,3 @@
-use Rattle.std.proofs.Common.{map}
 use Rattle.smithy_core.specs.Given.{Gives}
 use Rattle.awsign_run.specs.Run.{TakesAskedMoment, asked_moment}
 use Rattle.awsign_verify.proofs.judge.judge.Goals as goal

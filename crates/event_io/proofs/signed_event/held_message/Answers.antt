@@ -1,4 +1,4 @@
-use Rattle.std.proofs.Common.{rules, ℕ, List, length, ap, sym, ◌∙◌, inl, inr}
+use Rattle.std.proofs.Common.{rules, ℕ, List, length, ap, sym, ◌∙◌, inr}
 use Rattle.event_io.proofs.SignedEventLemmas.{left_over}
 use Rattle.event_io.proofs.signed_event.held_message.Goals as goal
 
