@@ -1,6 +1,6 @@
 -- What a signature adds to its request.
-use Rattle.std.specs.Prelude.{ℕ, Bool, List, fold}
-use Rattle.smithy_core.specs.TextPairs.{inserted, lower}
+use Rattle.std.specs.Prelude.{ℕ, Bool, List, map}
+use Rattle.smithy_core.specs.TextPairs.{all_inserted}
 use Rattle.sigv4.specs.Query.{Pair}
 
 -- a header that goes out: its name, its value, and whether that is to be kept out of logs
@@ -20,4 +20,4 @@ instruction_pair header = (header.name, header.value)
 
 -- the headers after inserting these, in order
 abbrev pub with_instructions : List Pair → List Instruction → List Pair
-with_instructions headers instructions = fold (λ all i. inserted all (lower i.name) i.value) headers instructions
+with_instructions headers instructions = all_inserted headers (map instruction_pair instructions)

@@ -2,6 +2,7 @@ ghost use Rattle.std.specs.Prelude.{◌≡◌, map, IfOk};
 ghost use Rattle.std.specs.Cow.{cow_str_bytes};
 ghost use Rattle.std.specs.Iterator.{YieldsFirstBy, item_count};
 ghost use Rattle.std.specs.String.{string_bytes};
+ghost use Rattle.smithy_core.specs.TextPairs.{text_pair};
 ghost use Rattle.sigv4.specs.Instructions.{instruction_pair};
 
 use smithy_core::Mem;
@@ -60,6 +61,14 @@ impl Header {
         ensures { result ≡ self.now.sensitive }
     {
         self.sensitive
+    }
+
+    // The name and the value.
+    pub(crate) fn into_pair(self) -> Mem<(String, String)>
+        ensures { IfOk result (λ pair. text_pair pair ≡ instruction_pair self) }
+    {
+        let alloc = *self.value.allocator();
+        Ok((self.name.into_owned(alloc)?, self.value))
     }
 
     /// An equal header.

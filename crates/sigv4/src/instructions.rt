@@ -114,8 +114,7 @@ impl SigningInstructions {
     {
         let alloc = *self.headers.allocator();
         let target = target_with(alloc, uri, self.params.as_slice())?;
-        let headers = headers_with(&request.headers, self.headers.as_slice())?;
-        request.headers = headers;
+        request.headers.insert_all(pairs_of(self.headers)?)?;
         replace_text(&mut request.target, target);
         Ok(())
     }
@@ -148,20 +147,13 @@ fn replace_text(text: &mut String, new: Option<String>)
     }
 }
 
-// The headers of a request after inserting these.
-fn headers_with(headers: &Headers, more: &[Header]) -> Mem<Headers>
-    ensures { IfOk result (λ all. all ≡ with_instructions headers.now more.now) }
+// The names and the values of headers.
+fn pairs_of(headers: Vec<Header>) -> Mem<Vec<(String, String)>>
+    ensures { IfOk result (λ pairs. text_pairs pairs.items ≡ map instruction_pair headers.items) }
 {
-    let mut all = headers.try_clone()?;
-    insert_all(&mut all, more)?;
-    Ok(all)
-}
-
-fn insert_all(headers: &mut Headers, more: &[Header]) -> Mem<()>
-    ensures { OnOk result (headers.new ≡ with_instructions headers.old more.now) }
-{
-    for header in more {
-        headers.insert(header.name(), header.value())?;
+    let mut pairs = Vec::with_capacity(*headers.allocator(), headers.len())?;
+    for header in headers {
+        pairs.push(header.into_pair()?)?;
     }
-    Ok(())
+    Ok(pairs)
 }

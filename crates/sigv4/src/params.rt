@@ -82,6 +82,13 @@ impl<'a, S> SigningParams<'a, S> {
         &self.settings
     }
 
+    /// The settings, out of the parameters. The SDK has no such public call.
+    pub fn into_settings(self) -> S
+        ensures { result ≡ v4_settings self.entry }
+    {
+        self.settings
+    }
+
     /// The name of the algorithm.
     pub fn algorithm(&self) -> &'static str
         ensures { result.now ≡ codes "AWS4-HMAC-SHA256" }

@@ -3,7 +3,7 @@ use Rattle.std.proofs.Common.{◌≡◌, ℕ, Bool, true, false, cond, not, List
 use Rattle.std.specs.Prelude.{String, bytes_eq, string_bytes}
 use Rattle.std.specs.declared.alloc.Global.{Global}
 use Rattle.std.proofs.lemmas.Str.Ascii.{lowercase-lowercase}
-use Rattle.smithy_core.specs.TextPairs.{AreLower, inserted, lower, text_pairs, without}
+use Rattle.smithy_core.specs.TextPairs.{AreLower, all_inserted, inserted, lower, text_pairs, without}
 
 pub lower_lower : (text : List ℕ) → lower (lower text) ≡ lower text
 lower_lower [] = refl
@@ -37,6 +37,14 @@ lower_inserted (pair ∷ pairs) key value are is =
 -- a pair put at its place
 pub lower_put : (before now : List (List ℕ × List ℕ)) (key value name : List ℕ) → AreLower before → key ≡ lower name → now ≡ inserted before key value → AreLower now
 lower_put before now key value name are is put = subst AreLower (sym put) (lower_inserted before key value are (is_lower key name is))
+
+-- pairs that were put in lower case, put at their places
+lower_all : (more before : List (List ℕ × List ℕ)) → AreLower before → AreLower (all_inserted before more)
+lower_all [] before are = are
+lower_all (pair ∷ more) before are = lower_all more (inserted before (lower pair.0) pair.1) (lower_inserted before (lower pair.0) pair.1 are (lower_lower pair.0))
+
+pub lower_put_all : (before now more : List (List ℕ × List ℕ)) → AreLower before → now ≡ all_inserted before more → AreLower now
+lower_put_all before now more are put = subst AreLower (sym put) (lower_all more before are)
 
 -- equal pairs
 pub lower_copied : (before now : List (List ℕ × List ℕ)) → AreLower before → now ≡ before → AreLower now

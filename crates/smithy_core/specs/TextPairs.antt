@@ -1,5 +1,5 @@
 -- Lists of pairs: headers, variables, files.
-use Rattle.std.specs.Prelude.{◌≡◌, ℕ, zero, suc, List, [], ◌∷◌, ◌++◌, map, filter, not, length, codes, Option, Some, None, unwrap_or, String, string_bytes, bytes_eq, if◌then◌else◌}
+use Rattle.std.specs.Prelude.{◌≡◌, ℕ, zero, suc, List, [], ◌∷◌, ◌++◌, map, filter, not, length, codes, fold, Option, Some, None, unwrap_or, String, string_bytes, bytes_eq, if◌then◌else◌}
 use Rattle.std.specs.Borrow.{Bor}
 use Rattle.std.specs.Fmt.{debug_str, decimal}
 use Rattle.std.specs.List.{AllByRecursion, flat_map}
@@ -55,6 +55,10 @@ abbrev pub inserted : List (List ℕ × List ℕ) → List ℕ → List ℕ → 
 inserted [] name value = (name, value) ∷ []
 inserted (pair ∷ pairs) name value =
     if bytes_eq pair.0 name then (name, value) ∷ without pairs name else pair ∷ inserted pairs name value
+
+-- the pairs after inserting these in order, each under its name in lower case
+abbrev pub all_inserted : List (List ℕ × List ℕ) → List (List ℕ × List ℕ) → List (List ℕ × List ℕ)
+all_inserted pairs more = fold (λ all pair. inserted all (lower pair.0) pair.1) pairs more
 
 -- the first place of the name, or the number of pairs
 abbrev pub first_place : List (List ℕ × List ℕ) → List ℕ → ℕ

@@ -1,6 +1,6 @@
-ghost use Rattle.std.specs.Prelude.{◌≡◌, ◌<◌, ◌↔◌, IsSome, IsTrue, map, [], ◌∷◌, ◌++◌, length, IfOk, OnOk, OnErr, option_copied, bytes_eq, filter, not, ◌≤◌, vec_len, vec_capacity};
+ghost use Rattle.std.specs.Prelude.{◌≡◌, ◌<◌, ◌↔◌, IsSome, IsTrue, map, [], ◌∷◌, ◌++◌, ◌+◌, length, IfOk, OnOk, OnErr, option_copied, bytes_eq, filter, not, ◌≤◌, vec_len, vec_capacity};
 ghost use Rattle.std.specs.String.{string_bytes};
-ghost use Rattle.smithy_core.specs.TextPairs.{AreLower, first_value, inserted, lower, lower_name, named_values, first_place, text_pairs};
+ghost use Rattle.smithy_core.specs.TextPairs.{AreLower, all_inserted, first_value, inserted, lower, lower_name, named_values, first_place, text_pairs};
 
 use crate::header_iter::HeaderIter;
 use crate::header_values::{HeaderValues, after_named};
@@ -60,6 +60,17 @@ impl Headers {
         let pair = lower_pair(*self.pairs.allocator(), name, value)?;
         self.pairs.reserve(1)?;
         put(&mut self.pairs, pair);
+        Ok(())
+    }
+
+    /// Puts the pairs in, in order, each as [`Headers::insert`] does. Where memory runs out, none is put in.
+    #[tactic(auto, using(crate::proofs::LowerLemmas::lower_put_all))]
+    pub fn insert_all(&mut self, pairs: Vec<(String, String)>) -> Mem<()>
+        ensures ok { OnOk result (self.new ≡ all_inserted self.old (text_pairs pairs.items)) }
+        ensures err { OnErr result (self.new ≡ self.old) }
+    {
+        self.pairs.reserve(pairs.len())?;
+        put_all(&mut self.pairs, pairs);
         Ok(())
     }
 
@@ -176,10 +187,23 @@ fn lower_pair(alloc: Global, name: &str, value: &str) -> Mem<(String, String)>
     Ok((name, String::from_str(alloc, value)?))
 }
 
+// Puts the pairs in, in order, each under its name in lower case, where there is room for all.
+fn put_all(pairs: &mut Vec<(String, String)>, more: Vec<(String, String)>)
+    requires { vec_len pairs.old + vec_len more ≤ vec_capacity pairs.old }
+    ensures { text_pairs pairs.new.items ≡ all_inserted (text_pairs pairs.old.items) (text_pairs more.items) }
+{
+    for (mut name, value) in more {
+        name.make_ascii_lowercase();
+        put(pairs, (name, value));
+    }
+}
+
 // Puts the pair at the first place of its name and drops the others of that name, or else adds it at the end.
 fn put(pairs: &mut Vec<(String, String)>, pair: (String, String))
     requires { vec_len pairs.old < vec_capacity pairs.old }
-    ensures { text_pairs pairs.new.items ≡ inserted (text_pairs pairs.old.items) (string_bytes pair.0) (string_bytes pair.1) }
+    ensures len { vec_len pairs.new ≤ vec_len pairs.old + 1 }
+    ensures capacity { vec_capacity pairs.old ≤ vec_capacity pairs.new }
+    ensures items { text_pairs pairs.new.items ≡ inserted (text_pairs pairs.old.items) (string_bytes pair.0) (string_bytes pair.1) }
 {
     let at = first_place(pairs.as_slice(), pair.0.as_str());
     drop_named(pairs, pair.0.as_str());

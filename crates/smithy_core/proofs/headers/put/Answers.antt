@@ -13,8 +13,8 @@ insert-requires c =
     let long = ap length kept in
     search (rules, at, within, long)
 
-pub returns : goal.returns
-returns c =
+pub returns-clause-items : goal.returns-clause-items
+returns-clause-items c =
     let at : c.first_place-at.result ≡ first_place (text_pairs c.args.pairs.now.items) (string_bytes c.args.pair.0) = simp (c.first_place-at.ensures, c.as_slice.ensures.value, c.as_str.ensures.value) refl in
     let kept : c.drop_named.new.pairs.items ≡ others text_pair (string_bytes c.args.pair.0) c.args.pairs.now.items = simp (c.drop_named.ensures.items, c.as_str-2.ensures.value) refl in
     let done : c.insert.new.self.items ≡ insert c.drop_named.new.pairs.items c.first_place-at.result c.args.pair = rw c.unwrap.ensures at c.insert.ensures.items in
