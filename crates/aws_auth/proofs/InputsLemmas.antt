@@ -18,12 +18,13 @@ use Rattle.aws_auth.specs.Error.{auth_error, override_error}
 use Rattle.aws_auth.specs.Inputs.{ChosenInputs, chosen, chosen_case, given_config, with_token_name}
 use Rattle.aws_auth.specs.NameOverride.{AnswersName, NameAnswer}
 use Rattle.aws_auth.specs.Signer.{IsAnswer, IsSignedCase, RefusesRequest, SignsRequest, SpellsAs, refusal_before_override, unfit_params, unsigned_target}
-use Rattle.aws_auth.specs.Steps.{IsParamsOf, RefusesTarget, SignsTarget, params_case}
+use Rattle.aws_auth.specs.Steps.{IsParamsOf, IsPrepared, RefusesTarget, SignsTarget, params_case}
 use Rattle.aws_auth.specs.declared.error.SigV4SigningError.{SigV4SigningError}
 use Rattle.aws_auth.specs.declared.error.SigV4SigningError.TheVariants.{NoMemory, Signing}
 use Rattle.aws_auth.specs.declared.inputs.SigningInputs.{SigningInputs}
 use Rattle.aws_auth.specs.declared.name_override.OverrideError.{OverrideError}
 use Rattle.aws_auth.specs.declared.options.SigV4OperationSigningConfig.{SigV4OperationSigningConfig}
+use Rattle.aws_auth.specs.declared.payload.PayloadSigningOverride.{PayloadSigningOverride}
 use Rattle.aws_auth.specs.declared.signer.Signed.{Signed}
 
 -- what is chosen leaves the token its usual name
@@ -61,6 +62,32 @@ same_signed identity who case other old new answer is same signs =
     (signs.0, signs.1, rw (← same signs.0) signs.2, made)
 
 module _ {F : Type 0} (calls : Shared F (Bor SigningSettings × (Bor SigV4OperationSigningConfig × Unit {0})) NameAnswer) (closure : Option F)
+    (identity : Identity) (inputs : SigningInputs) (now : Instant) (config : SigV4OperationSigningConfig) (choice : ChosenInputs)
+    (config_is : given_config inputs ≡ config) (choice_is : chosen inputs now ≡ choice) where
+  -- what an override answers for these settings and this config is its answer for what is chosen
+  answered : (answer : NameAnswer) → AnswersName calls closure choice.settings config answer
+      → AnswersName calls closure (chosen inputs now).settings (given_config inputs) answer
+  answered answer answers =
+      subst (λ c. AnswersName calls closure c.settings (given_config inputs) answer) (sym choice_is)
+      (subst (λ k. AnswersName calls closure choice.settings k answer) (sym config_is) answers)
+
+  -- the parameters of what is chosen are prepared
+  pub prepared_by : refusal_before_override identity inputs ≡ None → (name : Option (String Global)) → AnswersName calls closure choice.settings config (Ok name)
+      → (settings : SigningSettings) (params : SigningParams) → settings_of settings ≡ with_token_name choice.settings (option_map string_bytes name)
+      → unfit_params choice.region choice.name choice.at ≡ None → IsParamsOf identity choice.region choice.name choice.at settings params
+      → IsPrepared calls closure identity inputs now params choice.payload
+  prepared_by passed name answers settings params named fit is = record {
+    token_name = name;
+    settings = settings;
+    passed = passed;
+    asked = answered (Ok name) answers;
+    fit = rw choice_is fit;
+    named = rw choice_is named;
+    made = rw choice_is is;
+    in_place = rw choice_is refl;
+  }
+
+module _ {F : Type 0} (calls : Shared F (Bor SigningSettings × (Bor SigV4OperationSigningConfig × Unit {0})) NameAnswer) (closure : Option F)
     (identity : Identity) (inputs : SigningInputs) (now : Instant) (old : HttpRequest) where
   -- a test fails before the override is asked
   refused_early : (error : SigV4SigningError) → refusal_before_override identity inputs ≡ Some error → RefusesRequest calls closure identity inputs now old error
@@ -82,9 +109,7 @@ module _ {F : Type 0} (calls : Shared F (Bor SigningSettings × (Bor SigV4Operat
       (choice_is : chosen inputs now ≡ choice) where
     -- what an override answers for these settings and this config is the answer that counts
     counts : (answer : NameAnswer) → AnswersName calls closure choice.settings config answer → IsAnswer calls closure identity inputs now old answer
-    counts answer answers =
-        subst (λ c. AnswersName calls closure c.settings (given_config inputs) answer) (sym choice_is)
-        (subst (λ k. AnswersName calls closure choice.settings k answer) (sym config_is) answers)
+    counts answer answers = answered calls closure identity inputs now config choice config_is choice_is answer answers
 
     -- the override gives no name
     pub refused_name_by : (refused : OverrideError) → AnswersName calls closure choice.settings config (Err refused)
@@ -134,26 +159,27 @@ module _ {F : Type 0} (calls : Shared F (Bor SigningSettings × (Bor SigV4Operat
     refused_chosen name error answers fit (inl found) = kept_memory error (refused_for name error found.0 answers fit found.1 found.2)
     refused_chosen name error answers fit (inr memory) = rw memory (inr refl)
 
-    module _ (name : Option (String Global)) (answers : AnswersName calls closure choice.settings config (Ok name)) (settings : SigningSettings) (params : SigningParams)
-        (named : settings_of settings ≡ with_token_name choice.settings (option_map string_bytes name)) (fit : unfit_params choice.region choice.name choice.at ≡ None)
-        (is : IsParamsOf identity choice.region choice.name choice.at settings params) where
-      -- the request of the parameters is refused
-      pub refused_target : (error : SigningError) → RefusesTarget (string_bytes old.target) (params_case old choice.payload params) error
-          → RefusesRequest calls closure identity inputs now old (auth_error error) ⊎ (auth_error error ≡ NoMemory)
-      refused_target error refuses =
-          refused_chosen name error answers fit (same_refusal _ _ _ error (same_case old identity choice (option_map string_bytes name) settings params is named) refuses)
+  module _ (params : SigningParams) (payload : Option PayloadSigningOverride) (is : IsPrepared calls closure identity inputs now params payload) where
+    cases : (target : Target) → params_case old payload params target ≡ chosen_case old identity (chosen inputs now) (option_map string_bytes is.token_name) target
+    cases target = rw is.in_place (same_case old identity (chosen inputs now) (option_map string_bytes is.token_name) is.settings params is.made is.named target)
 
-      -- the request of the parameters is signed
-      pub signed_request : (new : HttpRequest) (answer : Signed) → SignsTarget (identity_of params) (params_case old choice.payload params) old new (Ok answer)
-          → SignsRequest calls closure identity inputs now old new answer
-      signed_request new answer signs =
-          let signs = same_signed identity (identity_of params) (params_case old choice.payload params) (chosen_case old identity choice (option_map string_bytes name))
-          old new answer (params_identity identity _ _ _ settings params is) (same_case old identity choice (option_map string_bytes name) settings params is named) signs in
-          record {
-            token_name = name;
-            target = signs.0;
-            asked = counts _ answers;
-            read = signs.1;
-            passed = rw (passed, choice_is, fit, signs.2) refl;
-            made = rw choice_is signs.3;
-          }
+    -- the request of the parameters is refused
+    pub refused_target : (error : SigningError) → RefusesTarget (string_bytes old.target) (params_case old payload params) error
+        → RefusesRequest calls closure identity inputs now old (auth_error error) ⊎ (auth_error error ≡ NoMemory)
+    refused_target error refuses =
+        refused_chosen (given_config inputs) (chosen inputs now) is.passed refl refl is.token_name error is.asked is.fit (same_refusal _ _ _ error cases refuses)
+
+    -- the request of the parameters is signed
+    pub signed_request : (new : HttpRequest) (answer : Signed) → SignsTarget (identity_of params) (params_case old payload params) old new (Ok answer)
+        → SignsRequest calls closure identity inputs now old new answer
+    signed_request new answer signs =
+        let signs = same_signed identity (identity_of params) (params_case old payload params) (chosen_case old identity (chosen inputs now) (option_map string_bytes is.token_name))
+        old new answer (params_identity identity _ _ _ is.settings params is.made) cases signs in
+        record {
+          token_name = is.token_name;
+          target = signs.0;
+          asked = is.asked;
+          read = signs.1;
+          passed = rw (is.passed, is.fit, signs.2) refl;
+          made = signs.3;
+        }

@@ -1,8 +1,11 @@
 -- A request that is signed by parameters, for what its target spells.
 use Rattle.std.proofs.Common.{◌≡◌, ℕ, ◌⊎◌, inl, inr, List, Option, Some, None, refl, sym, ap, ◌∙◌}
-use Rattle.std.specs.Prelude.{Ok, Err, string_bytes}
+use Rattle.std.specs.Prelude.{Ok, Err, String, string_bytes}
+use Rattle.std.specs.declared.alloc.Global.{Global}
 use Rattle.http_uri.specs.declared.uri.Uri.{Uri}
+use Rattle.smithy_core.specs.Identity.{IsSameIdentity}
 use Rattle.smithy_core.specs.declared.identity.Identity.{Identity}
+use Rattle.smithy_core.specs.declared.identity.Identity.TheVariants.{Credentials, Token}
 use Rattle.smithy_core.specs.declared.request.HttpRequest.{HttpRequest}
 use Rattle.smithy_http.specs.QueryWriter.{SpellsNoTarget, SpellsTarget}
 use Rattle.smithy_http.specs.Target.{Target, target_of}
@@ -10,6 +13,7 @@ use Rattle.sigv4.specs.Body.{payload_text}
 use Rattle.sigv4.specs.EventStream.{unsignable}
 use Rattle.sigv4.specs.Instructions.{Instructions, with_instructions}
 use Rattle.sigv4.specs.Parameters.{AppliesTo, target_text_with}
+use Rattle.sigv4.specs.Params.{v4_identity, v4_name, v4_region, v4_settings, v4_time}
 use Rattle.sigv4.specs.Query.{Pair}
 use Rattle.sigv4.specs.Refusal.{request_refusal, unfit}
 use Rattle.sigv4.specs.Request.{Case, identity_of, request_case}
@@ -24,7 +28,8 @@ use Rattle.sigv4.specs.declared.signing_params.SigningParams.{SigningParams}
 use Rattle.sigv4.specs.declared.signing_params.SigningParams.TheVariants.{V4}
 use Rattle.sigv4.proofs.RefusalLemmas.{not_taken, taken}
 use Rattle.aws_auth.specs.Inputs.{chosen_text}
-use Rattle.aws_auth.specs.Signer.{IsSignedCase}
+use Rattle.aws_auth.specs.MessageSigner.{signer_from}
+use Rattle.aws_auth.specs.Signer.{AnswersAlone, IsSignedCase}
 use Rattle.aws_auth.specs.Steps.{IsSignedWith, RefusesTarget, SignsParts, SignsTarget, params_case}
 use Rattle.aws_auth.specs.declared.payload.PayloadSigningOverride.{PayloadSigningOverride}
 use Rattle.aws_auth.specs.declared.signer.Signed.{Signed}
@@ -102,3 +107,40 @@ applied request new payload params uri made signature answer spells fit headers_
       rw (fit, passed) refl,
       made_case request new payload params target made signature answer headers_are params_are signature_is with headers applies.1,
     )
+
+same_identity : (identity : Identity) → IsSameIdentity identity identity
+same_identity (Credentials credentials) = record { key_id = refl; secret = refl; token = refl; expiry = refl }
+same_identity (Token token) = refl
+
+-- the signers that go on from a signature, where nobody asks for them
+abbrev unasked : SigningParams → String Global → Signed
+unasked (V4 params) signature = record {
+  signature = signature;
+  message_signer = signer_from signature (v4_identity params) (v4_region params) (v4_name params) (v4_time params) tt;
+  chunk_signer = signer_from signature (v4_identity params) (v4_region params) (v4_name params) (v4_time params) (v4_settings params);
+}
+
+signature_unasked : (params : SigningParams) (signature : String Global) → (unasked params signature).signature ≡ signature
+signature_unasked (V4 params) signature = refl
+
+unasked_is : (params : SigningParams) (signature : String Global) → IsSignedWith params (string_bytes signature) (unasked params signature)
+unasked_is (V4 params) signature =
+    let same = same_identity (v4_identity params) in (
+      refl,
+      record { signature = refl; identity = same; region = refl; name = refl; time = refl; kept = refl },
+      record { signature = refl; identity = same; region = refl; name = refl; time = refl; kept = refl },
+      refl,
+    )
+
+-- what a signature adds is put into the request, and the signature is answered alone
+pub applied_alone : (request new : HttpRequest) (payload : Option PayloadSigningOverride) (params : SigningParams) (uri : Uri) (made : Instructions) (signature : String Global)
+    → let case = params_case request payload params in let c = case (target_of uri) in
+    SpellsTarget (string_bytes request.target) uri → unfit c ≡ None → made.headers ≡ instructions c → made.params ≡ parameters c → string_bytes signature ≡ signature_of c
+    → new.headers ≡ with_instructions request.headers made.headers
+    → AppliesTo made.params (target_of uri) (string_bytes request.target) (string_bytes new.target) (Ok tt)
+    → AnswersAlone (SignsTarget (identity_of params) case request new) (Ok signature)
+applied_alone request new payload params uri made signature spells fit headers_are params_are signature_is headers applies = (
+  unasked params signature,
+  signature_unasked params signature,
+  applied request new payload params uri made (string_bytes signature) (unasked params signature) spells fit headers_are params_are signature_is (unasked_is params signature) headers applies,
+)

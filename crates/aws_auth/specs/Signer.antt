@@ -100,6 +100,11 @@ pub record IsSameSigned (signed copy : Signed) : Type 0 where
   pub message_signer : IsSameSigner (λ _ _. ⊤) signed.message_signer copy.message_signer
   pub chunk_signer : IsSameSigner (λ settings other. settings_of other ≡ settings_of settings) signed.chunk_signer copy.chunk_signer
 
+-- what is signed so is answered without its signers
+abbrev pub AnswersAlone : {E : Type 0} → (Result Signed E → Type 0) → Result (String Global) E → Type 0
+AnswersAlone Signs (Ok signature) = (signed : Signed) × (signed.signature ≡ signature) × Signs (Ok signed)
+AnswersAlone Signs (Err error) = Signs (Err error)
+
 module _ {F : Type 0} (calls : Shared F (Bor SigningSettings × (Bor SigV4OperationSigningConfig × Unit {0})) NameAnswer) (closure : Option F)
     (identity : Identity) (inputs : SigningInputs) (now : Instant) (old : HttpRequest) where
   -- the override answers so for the settings that are made so far, and the config

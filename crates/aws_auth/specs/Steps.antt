@@ -27,7 +27,7 @@ use Rattle.aws_auth.specs.Error.{override_error}
 use Rattle.aws_auth.specs.Inputs.{ChosenInputs, chosen, chosen_text, given_config, with_token_name}
 use Rattle.aws_auth.specs.MessageSigner.{GoesOn}
 use Rattle.aws_auth.specs.NameOverride.{AnswersName, NameAnswer}
-use Rattle.aws_auth.specs.Signer.{IsSignedCase, SpellsAs, refusal_before_override, unfit_params, unsigned_target}
+use Rattle.aws_auth.specs.Signer.{IsSignedCase, RefusesRequest, SpellsAs, refusal_before_override, unfit_params, unsigned_target}
 use Rattle.aws_auth.specs.declared.endpoint.EndpointField.{EndpointField}
 use Rattle.aws_auth.specs.declared.endpoint.EndpointFields.{EndpointFields}
 use Rattle.aws_auth.specs.declared.error.SigV4SigningError.{SigV4SigningError}
@@ -110,6 +110,24 @@ IsParamsOf identity region name at settings (V4 params) =
 abbrev pub TestsParams : Identity → Option (List ℕ) → Option (List ℕ) → Instant → SigningSettings → Result SigningParams SigV4SigningError → Type 0
 TestsParams identity region name at settings (Ok params) = (unfit_params region name at ≡ None) × IsParamsOf identity region name at settings params
 TestsParams identity region name at settings (Err error) = unfit_params region name at ≡ Some error
+
+module _ {F : Type 0} (calls : Shared F (Bor SigningSettings × (Bor SigV4OperationSigningConfig × Unit {0})) NameAnswer) (closure : Option F)
+    (identity : Identity) (inputs : SigningInputs) (now : Instant) where
+  -- the parameters, and what is signed in place of the body, as they are chosen, with the name that the override gives the token; no test before the target's fails
+  pub record IsPrepared (params : SigningParams) (payload : Option PayloadSigningOverride) : Type 0 where
+    pub token_name : Option (String Global)
+    pub settings : SigningSettings
+    pub passed : refusal_before_override identity inputs ≡ None
+    pub asked : AnswersName calls closure (chosen inputs now).settings (given_config inputs) (Ok token_name)
+    pub fit : unfit_params (chosen inputs now).region (chosen inputs now).name (chosen inputs now).at ≡ None
+    pub named : settings_of settings ≡ with_token_name (chosen inputs now).settings (option_map string_bytes token_name)
+    pub made : IsParamsOf identity (chosen inputs now).region (chosen inputs now).name (chosen inputs now).at settings params
+    pub in_place : payload ≡ (chosen inputs now).payload
+
+  -- they are prepared, or the first test that fails for any request, or memory ran out
+  abbrev pub PreparesSigning : Result (SigningParams × Option (Bor PayloadSigningOverride)) SigV4SigningError → Type 0
+  PreparesSigning (Ok prepared) = IsPrepared prepared.0 (option_copied prepared.1)
+  PreparesSigning (Err error) = (old : HttpRequest) → RefusesRequest calls closure identity inputs now old error ⊎ (error ≡ NoMemory)
 
 -- the signature, and two signers that go on from it
 abbrev pub IsSignedWith : SigningParams → List ℕ → Signed → Type 0

@@ -1,11 +1,11 @@
 ghost use Rattle.std.specs.Prelude.{◌≡◌, None, IfOk, IfSome, OnErr, option_copied, string_bytes};
 ghost use Rattle.sigv4.specs.EventStream.{unsignable};
-ghost use Rattle.sigv4.specs.Params.{signer_of, v4_identity, v4_time};
+ghost use Rattle.sigv4.specs.Params.{signer_of, v4_identity, v4_settings, v4_time};
 ghost use Rattle.sigv4.specs.Request.{identity_of};
 ghost use Rattle.sigv4.specs.SigningParams.{params_time};
 ghost use Rattle.aws_auth.specs.MessageSigner.{GoesOn};
-ghost use Rattle.aws_auth.specs.Signer.{IsSameSigned, SignsByInputs, SignsPlainly};
-ghost use Rattle.aws_auth.specs.Steps.{IsSignedWith, SignsParts, SignsTarget, TestsParams, params_case};
+ghost use Rattle.aws_auth.specs.Signer.{AnswersAlone, IsSameSigned, SignsByInputs, SignsPlainly};
+ghost use Rattle.aws_auth.specs.Steps.{IsSignedWith, PreparesSigning, SignsParts, SignsTarget, TestsParams, params_case};
 
 use crate::error::SigV4SigningError;
 use crate::inputs::{SigningInputs, choose, signable_body};
@@ -116,10 +116,8 @@ impl SigV4Signer {
         ensures err { OnErr result (request.new ≡ request.old) }
     {
         let alloc = *request.method.allocator();
-        let (config, choice) = choose(alloc, identity, inputs, now)?;
-        let settings = named_settings(choice.settings, config, name_override)?;
-        let params = tested_params(identity, choice.region, choice.name, choice.at, settings)?;
-        Ok(sign_by(alloc, request, choice.payload, &params)?)
+        let (params, payload) = prepared(alloc, identity, inputs, now, name_override)?;
+        Ok(sign_by(alloc, request, payload, params)?)
     }
 
     /// As [`SigV4Signer::sign_http_request`] without an override of the session token's name: signs a request in place, and
@@ -145,6 +143,30 @@ impl SigV4Signer {
         let usual: Option<&SigV4SessionTokenNameOverride<NameOverride>> = None;
         self.sign_http_request(request, identity, inputs, now, usual)
     }
+
+    /// As [`SigV4Signer::sign`], where nothing follows the request: signs it in place, and answers the signature alone, so that who
+    /// signs isn't copied for signers that nobody asks for. The SDK has no such public call.
+    ///
+    /// # Errors
+    ///
+    /// Those of [`SigV4Signer::sign`]; the request stays as it is.
+    pub fn sign_alone(
+        &self,
+        request: &mut HttpRequest,
+        identity: &Identity,
+        inputs: &SigningInputs<'_>,
+        now: Moment,
+    ) -> Result<String, SigV4SigningError>
+        ensures signs { AnswersAlone (SignsPlainly identity.now inputs.now now request.old request.new) result }
+        ensures method { request.new.method ≡ request.old.method }
+        ensures body { request.new.body ≡ request.old.body }
+        ensures err { OnErr result (request.new ≡ request.old) }
+    {
+        let alloc = *request.method.allocator();
+        let usual: Option<&SigV4SessionTokenNameOverride<NameOverride>> = None;
+        let (params, payload) = prepared(alloc, identity, inputs, now, usual)?;
+        Ok(sign_alone_by(alloc, request, payload, &params)?)
+    }
 }
 
 // An override that is a function.
@@ -152,6 +174,26 @@ type NameOverride = fn(
     &SigningSettings,
     &SigV4OperationSigningConfig,
 ) -> Result<Option<String>, OverrideError>;
+
+// The parameters of a signature and what is signed in place of the body, as the endpoint, the inputs, the config and the override say,
+// where no test before the target's fails.
+fn prepared<'a, F>(
+    alloc: Global,
+    identity: &'a Identity,
+    inputs: &SigningInputs<'a>,
+    now: Moment,
+    name_override: Option<&SigV4SessionTokenNameOverride<F>>,
+) -> Result<(SigningParams<'a>, Option<&'a PayloadSigningOverride>), SigV4SigningError>
+where
+    F: Fn(&SigningSettings, &SigV4OperationSigningConfig) -> Result<Option<String>, OverrideError>,
+    requires callable { IfSome (option_copied name_override) F.IsAlwaysCallable }
+    ensures { PreparesSigning F.Fn (option_copied name_override.entry) identity.entry.now inputs.now now result }
+{
+    let (config, choice) = choose(alloc, identity, inputs, now)?;
+    let settings = named_settings(choice.settings, config, name_override)?;
+    let params = tested_params(identity, choice.region, choice.name, choice.at, settings)?;
+    Ok((params, choice.payload))
+}
 
 // The parameters of a signature, where there are a region and a name, and the moment lies in the years 0 to 9999.
 fn tested_params<'a>(
@@ -183,19 +225,38 @@ fn sign_by(
     alloc: Global,
     request: &mut HttpRequest,
     payload: Option<&PayloadSigningOverride>,
-    params: &SigningParams<'_>,
+    params: SigningParams<'_>,
 ) -> Result<Signed, SigningError>
+    requires { unsignable (identity_of params) (params_time params) ≡ None }
+    ensures signs { SignsTarget (identity_of params.entry) (params_case request.old (option_copied payload.entry) params.entry) request.old request.new result }
+    ensures method { request.new.method ≡ request.old.method }
+    ensures body { request.new.body ≡ request.old.body }
+    ensures err { OnErr result (request.new ≡ request.old) }
+{
+    let (output, uri) = signed_parts(alloc, request, payload, &params)?;
+    let (instructions, signature) = output.into_parts();
+    let signed = signed_with(alloc, params, signature)?;
+    instructions.apply_to_parsed(request, &uri)?;
+    Ok(signed)
+}
+
+// Signs a request by parameters. It changes last, all or nothing.
+fn sign_alone_by(
+    alloc: Global,
+    request: &mut HttpRequest,
+    payload: Option<&PayloadSigningOverride>,
+    params: &SigningParams<'_>,
+) -> Result<String, SigningError>
     requires { unsignable (identity_of params.now) (params_time params.now) ≡ None }
-    ensures signs { SignsTarget (identity_of params.now) (params_case request.old (option_copied payload.entry) params.now) request.old request.new result }
+    ensures signs { AnswersAlone (SignsTarget (identity_of params.now) (params_case request.old (option_copied payload.entry) params.now) request.old request.new) result }
     ensures method { request.new.method ≡ request.old.method }
     ensures body { request.new.body ≡ request.old.body }
     ensures err { OnErr result (request.new ≡ request.old) }
 {
     let (output, uri) = signed_parts(alloc, request, payload, params)?;
     let (instructions, signature) = output.into_parts();
-    let signed = signed_with(alloc, params, signature)?;
     instructions.apply_to_parsed(request, &uri)?;
-    Ok(signed)
+    Ok(signature)
 }
 
 // What a signature adds to a request, and what was read of its target.
@@ -219,28 +280,28 @@ fn signed_parts(
     Ok((output, signable.into_uri()))
 }
 
-// The signature, and two signers that go on from it.
-fn signed_with(alloc: Global, params: &SigningParams<'_>, signature: String) -> Mem<Signed>
-    ensures { IfOk result (IsSignedWith params.now (string_bytes signature)) }
+// The signature, and two signers that go on from it, the second of which takes the settings.
+fn signed_with(alloc: Global, params: SigningParams<'_>, signature: String) -> Mem<Signed>
+    ensures { IfOk result (IsSignedWith params.entry (string_bytes signature)) }
 {
     let SigningParams::V4(params) = params;
-    let settings = params.settings().try_clone()?;
+    let (region, name) = (params.region(), params.name());
+    let plain = v4::SigningParams::new(params.identity(), region, name, params.time(), ());
     Ok(Signed {
-        message_signer: signer_with(alloc, params, signature.clone()?, ())?,
-        chunk_signer: signer_with(alloc, params, signature.clone()?, settings)?,
+        message_signer: signer_from(alloc, plain, signature.clone()?)?,
+        chunk_signer: signer_from(alloc, params, signature.clone()?)?,
         signature,
     })
 }
 
-// A signer with these settings that goes on from a signature.
-fn signer_with<S: Drop>(
+// What signs by parameters and goes on from a signature.
+fn signer_from<S: Drop>(
     alloc: Global,
-    params: &v4::SigningParams<'_, SigningSettings>,
+    params: v4::SigningParams<'_, S>,
     signature: String,
-    settings: S,
 ) -> Mem<SigV4MessageSigner<S>>
-    ensures from { IfOk result (GoesOn (v4_identity params.now) (string_bytes signature) (signer_of params.now) (v4_time params.now)) }
-    ensures settings { IfOk result (λ signer. signer.parts.settings ≡ settings) }
+    ensures from { IfOk result (GoesOn (v4_identity params.entry) (string_bytes signature) (signer_of params.entry) (v4_time params.entry)) }
+    ensures settings { IfOk result (λ signer. signer.parts.settings ≡ v4_settings params.entry) }
 {
     Ok(SigV4MessageSigner::new(
         signature,
@@ -248,6 +309,6 @@ fn signer_with<S: Drop>(
         Region::new(String::from_str(alloc, params.region())?),
         SigningName::new(String::from_str(alloc, params.name())?),
         params.time(),
-        settings,
+        params.into_settings(),
     ))
 }

@@ -1,62 +1,39 @@
 -- The signing of an attempt's request.
-use Rattle.std.proofs.Common.{◌≡◌, inl, inr, List, Option, Some, None, refl, ap, sym, ◌∙◌}
-use Rattle.std.specs.Prelude.{Ok, Err, option_map, string_bytes}
+use Rattle.std.proofs.Common.{◌≡◌, inl, inr, List, Option, Some, None, refl, ap}
+use Rattle.std.specs.Prelude.{Err, option_map, string_bytes}
 use Rattle.std.specs.Option.{option_or}
 use Rattle.sigv4.specs.Refusal.{unfit, unfit_signed_target}
 use Rattle.sigv4.specs.Request.{Case}
-use Rattle.std.specs.Borrow.{Bor}
-use Rattle.std.specs.Fn.{Shared}
 use Rattle.smithy_core.specs.Moment.{Instant}
 use Rattle.smithy_core.specs.declared.identity.Identity.{Identity}
 use Rattle.smithy_core.specs.declared.request.HttpRequest.{HttpRequest}
 use Rattle.smithy_http.specs.Target.{Target}
-use Rattle.sigv4.specs.declared.settings.SigningSettings.{SigningSettings}
 use Rattle.aws_auth.specs.Inputs.{ChosenInputs, chosen, chosen_case}
 use Rattle.aws_auth.specs.NameOverride.{NameAnswer}
-use Rattle.aws_auth.specs.Signer.{RefusesRequest, SignsByInputs, SpellsAs, name_in, refusal_before_override, refusal_before_target, signing_refusal}
+use Rattle.aws_auth.specs.Signer.{RefusesPlainly, SignsPlainly, name_in, refusal_before_override, refusal_before_target, signing_refusal}
 use Rattle.aws_auth.specs.declared.error.SigV4SigningError.{SigV4SigningError}
 use Rattle.aws_auth.specs.declared.error.SigV4SigningError.TheVariants as errors
 use Rattle.aws_auth.specs.declared.inputs.SigningInputs.{SigningInputs}
-use Rattle.aws_auth.specs.declared.options.SigV4OperationSigningConfig.{SigV4OperationSigningConfig}
 use Rattle.operation_run.specs.Fault.{not_signed}
 use Rattle.operation_run.specs.Reply.{request_texts}
 use Rattle.operation_run.specs.Steps.{SignsAt}
 
--- ## No override
+-- ## Signed without signers
 
--- a test fails where no override is asked
-abbrev pub IsRefused : Identity → SigningInputs → Instant → HttpRequest → SigV4SigningError → Type 0
-IsRefused identity inputs now old error =
-    (target : Option Target)
-    × (refusal_before_override identity inputs ≡ None → refusal_before_target (chosen inputs now) (Ok None) ≡ None → SpellsAs (string_bytes old.target) target)
-    × (signing_refusal old identity inputs now (Ok None) target ≡ Some error)
-
-module _ {F : Type 0} (calls : Shared F (Bor SigningSettings × (Bor SigV4OperationSigningConfig × Unit {0})) NameAnswer)
-    (identity : Identity) (inputs : SigningInputs) (now : Instant) (old new : HttpRequest) where
-  refused_unasked : (error : SigV4SigningError) → RefusesRequest calls None identity inputs now old error → IsRefused identity inputs now old error
-  refused_unasked error is = by_before (refusal_before_override identity inputs) refl
-    where
-      by_before : (before : Option SigV4SigningError) → refusal_before_override identity inputs ≡ before → IsRefused identity inputs now old error
-      by_before None passed =
-          let same : is.answer ≡ Ok None = is.asked passed in
-          (is.target, (λ first second. is.read first (rw same second)), rw same at is.refused)
-      by_before (Some other) failed =
-          let told : Some other ≡ Some error = rw failed at is.refused in
-          (None, (λ none. absurd (let wrong : None ≡ Some other = sym none ∙ failed in cc)), rw failed told)
-
-  refused_as : (error : SigV4SigningError) → IsRefused identity inputs now old error → SignsAt identity inputs now old new (Err (not_signed error))
-  refused_as errors.MissingOperationSigningConfig is = is
-  refused_as errors.MissingSigningRegion is = is
-  refused_as errors.MissingSigningName is = is
-  refused_as errors.WrongIdentityType is = is
-  refused_as (errors.BadTypeInEndpointAuthSchemeConfig field) is = is
-  refused_as errors.NameOverrideRefused is = is
-  refused_as (errors.Signing error) is = is
+module _ (identity : Identity) (inputs : SigningInputs) (now : Instant) (old new : HttpRequest) where
+  refused_as : (error : SigV4SigningError) → RefusesPlainly identity inputs now old error → SignsAt identity inputs now old new (Err (not_signed error))
+  refused_as errors.MissingOperationSigningConfig is = (is.target, is.read, is.refused)
+  refused_as errors.MissingSigningRegion is = (is.target, is.read, is.refused)
+  refused_as errors.MissingSigningName is = (is.target, is.read, is.refused)
+  refused_as errors.WrongIdentityType is = (is.target, is.read, is.refused)
+  refused_as (errors.BadTypeInEndpointAuthSchemeConfig field) is = (is.target, is.read, is.refused)
+  refused_as errors.NameOverrideRefused is = (is.target, is.read, is.refused)
+  refused_as (errors.Signing error) is = (is.target, is.read, is.refused)
   refused_as errors.NoMemory is = tt
 
   -- the error of a request that isn't signed
-  pub not_signed_at : (error : SigV4SigningError) → SignsByInputs calls None identity inputs now old new (Err error) → SignsAt identity inputs now old new (Err (not_signed error))
-  not_signed_at error (inl is) = refused_as error (refused_unasked error is)
+  pub not_signed_at : (error : SigV4SigningError) → SignsPlainly identity inputs now old new (Err error) → SignsAt identity inputs now old new (Err (not_signed error))
+  not_signed_at error (inl is) = refused_as error is
   not_signed_at error (inr is) = rw is tt
 
 -- ## Requests that say the same

@@ -16,7 +16,7 @@ use smithy_core::{
     CalmFrames, Env, FramePart, Headers, HttpRequest, Identity, Message, Moment, Region,
     SigningName,
 };
-use std::alloc::Global;
+use std::alloc::{AllocError, Global};
 
 const OBJECT: &str = "https://examplebucket.s3.amazonaws.com/test.txt";
 
@@ -28,40 +28,59 @@ pub fn push_all(alloc: Global, text: &mut String, at: Moment) -> anyhow::Result<
     let identity = Identity::Credentials(settings.credentials);
     let mut request = HttpRequest::new(alloc, "GET", OBJECT)?;
     let options = SigningOptions::for_s3();
-    let signed = sign(alloc, &mut request, &identity, "s3", options, at)?;
+    let signature = sign_alone(alloc, &mut request, &identity, options, at)?;
     let until = good_until(alloc, &identity, at)?;
     let len = uploaded(alloc, &identity, at)?.len();
     let events = there_and_back(alloc, &identity, at)?;
     write!(
         text,
-        "{}\ngood until {until}\n{len} bytes\n{events} events\n\n",
-        signed.signature
+        "{signature}\ngood until {until}\n{len} bytes\n{events} events\n\n"
     )?;
     Ok(())
 }
 
+// Signs a request that nothing follows.
+fn sign_alone(
+    alloc: Global,
+    request: &mut HttpRequest,
+    identity: &Identity,
+    options: SigningOptions,
+    at: Moment,
+) -> anyhow::Result<String> {
+    let config = config_of(alloc, "s3", options)?;
+    Ok(SigV4Signer::new().sign_alone(request, identity, &SigningInputs::from(&config), at)?)
+}
+
+// Signs a request that chunks or events follow.
 fn sign(
     alloc: Global,
     request: &mut HttpRequest,
     identity: &Identity,
     service: &str,
-    signing_options: SigningOptions,
+    options: SigningOptions,
     at: Moment,
 ) -> anyhow::Result<Signed> {
-    let config = SigV4OperationSigningConfig {
+    let config = config_of(alloc, service, options)?;
+    Ok(SigV4Signer::new().sign(request, identity, &SigningInputs::from(&config), at)?)
+}
+
+fn config_of(
+    alloc: Global,
+    service: &str,
+    signing_options: SigningOptions,
+) -> Result<SigV4OperationSigningConfig, AllocError> {
+    Ok(SigV4OperationSigningConfig {
         region: Some(Region::from_str(alloc, "us-east-1")?),
         name: Some(SigningName::from_str(alloc, service)?),
         signing_options,
-    };
-    let inputs = SigningInputs::from(&config);
-    Ok(SigV4Signer::new().sign(request, identity, &inputs, at)?)
+    })
 }
 
 fn good_until(alloc: Global, identity: &Identity, at: Moment) -> anyhow::Result<i128> {
     let mut request = HttpRequest::new(alloc, "GET", OBJECT)?;
     let options = SigningOptions::presigned_for_s3(900);
     let settings = options.settings(alloc)?;
-    sign(alloc, &mut request, identity, "s3", options, at)?;
+    sign_alone(alloc, &mut request, identity, options, at)?;
     let Some(credentials) = identity.credentials() else {
         bail!("the identity has no key")
     };

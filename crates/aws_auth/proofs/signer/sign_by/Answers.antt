@@ -8,7 +8,7 @@ returns-in_err-apply_to_parsed-clause-signs c =
     let exit = err_from_is_err_and c.from_residual-in_err-apply_to_parsed.result c.from_residual-in_err-apply_to_parsed.ensures.1 in
     let parts = c.in_ok-output.ensures in
     rw (exit.1, exit.2)
-    (retargeted c.args.request.now (option_copied c.args.payload) c.args.params.now c.in_ok-output.uri c.in_ok-output.output.output.params
+    (retargeted c.args.request.now (option_copied c.args.payload) c.args.params c.in_ok-output.uri c.in_ok-output.output.output.params
     (string_bytes c.apply_to_parsed.new.request.target) _ parts.0 parts.1 parts.2.params (rw c.into_parts-instructions.ensures at c.in_err-apply_to_parsed.ensures.target))
 
 pub returns-clause-signs : goal.returns-clause-signs
@@ -16,5 +16,5 @@ returns-clause-signs c =
     let parts = c.in_ok-output.ensures in
     let made = rw c.into_parts-instructions.ensures at c.in_ok-apply_to_parsed.ensures in
     let with = rw c.into_parts-instructions.ensures at c.in_ok-signed.ensures in
-    applied c.args.request.now c.apply_to_parsed.new.request (option_copied c.args.payload) c.args.params.now c.in_ok-output.uri c.in_ok-output.output.output
+    applied c.args.request.now c.apply_to_parsed.new.request (option_copied c.args.payload) c.args.params c.in_ok-output.uri c.in_ok-output.output.output
     (string_bytes c.in_ok-output.output.signature) c.in_ok-signed.signed parts.0 parts.1 parts.2.headers parts.2.params parts.2.signature with made.headers made.target

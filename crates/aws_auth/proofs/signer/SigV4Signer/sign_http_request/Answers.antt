@@ -1,53 +1,21 @@
-use Rattle.std.proofs.Common.{inl}
 use Rattle.std.proofs.lemmas.Result.{err_from_is_err_and}
 use Rattle.std.specs.Prelude.{option_copied}
-use Rattle.aws_auth.specs.Steps.{choice_of}
-use Rattle.aws_auth.proofs.InputsLemmas.{kept_early, refused_name_by, refused_params, refused_target, signed_request, usual_name}
+use Rattle.aws_auth.proofs.InputsLemmas.{refused_target, signed_request}
 use Rattle.aws_auth.proofs.signer.SigV4Signer.sign_http_request.Goals as goal
-
-pub named_settings-requires-clause-usual : goal.named_settings-requires-clause-usual
-named_settings-requires-clause-usual g c = usual_name c.args.inputs.now c.args.now (choice_of c.in_ok-config.choice) c.in_ok-config.ensures.2
-
-pub returns-in_err-config-clause-signs : goal.returns-in_err-config-clause-signs
-returns-in_err-config-clause-signs g c =
-    let exit = err_from_is_err_and c.from_residual.result c.from_residual.ensures.1 in
-    rw (exit.1, exit.2)
-    (kept_early g.F.Fn (option_copied c.args.name_override) c.args.identity.now c.args.inputs.now c.args.now c.args.request.now _ c.in_err-config.ensures)
-
-pub returns-in_err-settings-clause-signs : goal.returns-in_err-settings-clause-signs
-returns-in_err-settings-clause-signs g c =
-    let exit = err_from_is_err_and c.from_residual-in_err-settings.result c.from_residual-in_err-settings.ensures.1 in
-    let chose = c.in_ok-config.ensures in
-    let refused = c.in_err-settings.ensures in
-    rw (exit.1, exit.2, refused.2)
-    (inl (refused_name_by g.F.Fn (option_copied c.args.name_override) c.args.identity.now c.args.inputs.now c.args.now c.args.request.now
-    c.in_ok-config.config.now (choice_of c.in_ok-config.choice) chose.0 chose.1 chose.2 refused.0 refused.1))
 
 pub returns-in_err-params-clause-signs : goal.returns-in_err-params-clause-signs
 returns-in_err-params-clause-signs g c =
-    let exit = err_from_is_err_and c.from_residual-in_err-params.result c.from_residual-in_err-params.ensures.1 in
-    let chose = c.in_ok-config.ensures in
-    let named = c.in_ok-settings.ensures in
-    rw (exit.1, exit.2)
-    (inl (refused_params g.F.Fn (option_copied c.args.name_override) c.args.identity.now c.args.inputs.now c.args.now c.args.request.now
-    c.in_ok-config.config.now (choice_of c.in_ok-config.choice) chose.0 chose.1 chose.2 named.0 _ named.1 c.in_err-params.ensures))
+    let exit = err_from_is_err_and c.from_residual.result c.from_residual.ensures.1 in
+    rw (exit.1, exit.2) (c.in_err-params.ensures c.args.request.now)
 
 pub returns-in_err-sign_by-clause-signs : goal.returns-in_err-sign_by-clause-signs
 returns-in_err-sign_by-clause-signs g c =
     let exit = err_from_is_err_and c.from_residual-in_err-sign_by.result c.from_residual-in_err-sign_by.ensures.1 in
-    let chose = c.in_ok-config.ensures in
-    let named = c.in_ok-settings.ensures in
-    let made = c.in_ok-params.ensures in
     rw (exit.1, exit.2)
     (refused_target g.F.Fn (option_copied c.args.name_override) c.args.identity.now c.args.inputs.now c.args.now c.args.request.now
-    c.in_ok-config.config.now (choice_of c.in_ok-config.choice) chose.0 chose.1 chose.2 named.0 named.1 c.in_ok-settings.settings c.in_ok-params.params named.2
-    made.0 made.1 _ c.in_err-sign_by.ensures.signs)
+    c.in_ok-params.params (option_copied c.in_ok-params.payload) c.in_ok-params.ensures _ c.in_err-sign_by.ensures.signs)
 
 pub returns-clause-signs : goal.returns-clause-signs
 returns-clause-signs g c =
-    let chose = c.in_ok-config.ensures in
-    let named = c.in_ok-settings.ensures in
-    let made = c.in_ok-params.ensures in
     signed_request g.F.Fn (option_copied c.args.name_override) c.args.identity.now c.args.inputs.now c.args.now c.args.request.now
-    c.in_ok-config.config.now (choice_of c.in_ok-config.choice) chose.0 chose.1 chose.2 named.0 named.1 c.in_ok-settings.settings c.in_ok-params.params named.2
-    made.0 made.1 c.sign_by.new.request c.in_ok-sign_by.field-0 c.in_ok-sign_by.ensures.signs
+    c.in_ok-params.params (option_copied c.in_ok-params.payload) c.in_ok-params.ensures c.sign_by.new.request c.in_ok-sign_by.field-0 c.in_ok-sign_by.ensures.signs
