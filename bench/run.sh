@@ -22,9 +22,11 @@ rate() {
 rate requests 20000 sign 20000
 rate requests 20000 presign 20000
 rate requests 20000 kept-sign 20000
+rate requests 20000 request 20000
 rate requests 20000 kept-request 20000
 rate requests 20000 signer 20000
 rate requests 20000 operation 20000
+rate requests 20000 followed-operation 20000
 rate operations 20000 operate 20000
 rate requests 20000 admit 20000
 rate MB 20.48 chain 20000 1024

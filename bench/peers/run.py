@@ -23,8 +23,9 @@ import tempfile
 HERE = pathlib.Path(__file__).resolve().parent
 HASH = "hash 1000 65536"
 WORKS = [
-    HASH, "sign 10000", "kept-sign 10000", "signer 10000", "presign 10000", "chain 10000 1024", "kept-chain 10000 1024", "chain 500 65536",
-    "kept-chain 500 65536", "checksum 10000 65536", "write 10000 65536", "decode 2000", "receive 2000",
+    HASH, "sign 10000", "kept-sign 10000", "request 10000", "operation 10000", "followed-operation 10000", "signer 10000", "presign 10000",
+    "chain 10000 1024", "kept-chain 10000 1024", "chain 500 65536", "kept-chain 500 65536", "checksum 10000 65536", "write 10000 65536",
+    "decode 2000", "receive 2000",
 ]
 # What `decode` and `receive` read each time.
 STREAM = 175 * 1024
@@ -55,7 +56,7 @@ def programs(own, folder):
 
 
 def is_of_requests(work):
-    return re.match(r"(kept-|pre)?sign(er)? ", work) is not None
+    return re.match(r"((kept-|pre)?sign|signer|request|(followed-)?operation) ", work) is not None
 
 
 def amount(work):

@@ -4,9 +4,11 @@
 //! bench sign COUNT            signs a small request: three headers and no body
 //! bench presign COUNT         presigns a small request: no headers and no body
 //! bench kept-sign COUNT       signs such a request each time under one key
+//! bench request COUNT         makes such a request each time, signs it, and puts the signature in
 //! bench kept-request COUNT    makes such a request each time, signs it under one key, and puts the signature in
 //! bench signer COUNT          does so by a signer, each a second after the last one
-//! bench operation COUNT       signs the small request by the inputs of its operation
+//! bench operation COUNT       makes and signs the small request by the inputs of its operation
+//! bench followed-operation COUNT does so with the signers that go on from it
 //! bench operate COUNT         runs an operation over a transport in memory
 //! bench admit COUNT           lets a signed small request in at a service's door
 //! bench chain COUNT SIZE      signs a chain of so many events with so many bytes each

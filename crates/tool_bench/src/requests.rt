@@ -1,10 +1,37 @@
-//! The work of signing whole requests under a key that is kept for its day: by one call, and by the calls below it.
+//! The work of signing whole requests: by parameters, and under a key that is kept for its day, by one call and by the calls below it.
 use crate::digest::Digest;
-use crate::signing::{TARGET, example_headers, example_identity, moment_of};
+use crate::signing::{example_identity, example_request, moment_of};
 use aws_signing::Signer;
-use sigv4::{SignableRequest, SigningParams, SigningSettings, sign_with_key, v4};
+use sigv4::{SignableRequest, SigningParams, SigningSettings, sign, sign_with_key, v4};
 use smithy_core::{Credentials, HttpRequest};
 use std::alloc::Global;
+
+/// Makes and signs the small request so many times by `sign`, each a second after the last one.
+pub fn by_parameters(alloc: Global, count: u32) -> anyhow::Result<Digest> {
+    let identity = example_identity(alloc)?;
+    let mut digest = Digest::new();
+    for number in 0..count {
+        let mut request = example_request(alloc)?;
+        let settings = SigningSettings::new(alloc)?;
+        let at = moment_of(number);
+        let params = v4::SigningParams::new(&identity, "us-east-1", "service", at, settings);
+        let signature = sign_in_place(alloc, &mut request, &SigningParams::V4(params))?;
+        digest = digest.with(signature.as_bytes());
+    }
+    Ok(digest)
+}
+
+// Signs a request, and puts the signature in.
+fn sign_in_place(
+    alloc: Global,
+    request: &mut HttpRequest,
+    params: &SigningParams<'_>,
+) -> anyhow::Result<String> {
+    let signable = SignableRequest::from_http_request(alloc, request)?;
+    let (made, signature) = sign(alloc, signable, params)?.into_parts();
+    made.apply_to_request(request)?;
+    Ok(signature)
+}
 
 /// Makes and signs the small request so many times by a signer, each a second after the last one.
 pub fn by_signer(alloc: Global, count: u32) -> anyhow::Result<Digest> {
@@ -41,10 +68,4 @@ fn example_signer(alloc: Global) -> anyhow::Result<Signer> {
     let secret = String::from_str(alloc, "wJalrXUtnFEMI/K7MDENG+bPxRfiCYEXAMPLEKEY")?;
     let credentials = Credentials::new(key_id, secret, None, None);
     Ok(Signer::new(alloc, &credentials, "us-east-1", "service")?)
-}
-
-fn example_request(alloc: Global) -> anyhow::Result<HttpRequest> {
-    let mut request = HttpRequest::new(alloc, "GET", TARGET)?;
-    request.headers = example_headers(alloc)?;
-    Ok(request)
 }

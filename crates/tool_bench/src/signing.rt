@@ -81,16 +81,39 @@ pub fn moment_of(number: u32) -> Moment {
 /// The target of the small request.
 pub const TARGET: &str = "https://service.us-east-1.amazonaws.com/path";
 
-/// Signs the same request so many times by the inputs of its operation, each a second after the last one.
+/// Makes and signs the same request so many times by the inputs of its operation, each a second after the last one.
 pub fn operations(alloc: Global, count: u32) -> anyhow::Result<Digest> {
+    let identity = example_identity(alloc)?;
+    let config = example_config(alloc)?;
+    let inputs = SigningInputs::from(&config);
+    let mut digest = Digest::new();
+    for number in 0..count {
+        let mut request = example_request(alloc)?;
+        let at = moment_of(number);
+        let signature = SigV4Signer::new().sign_alone(&mut request, &identity, &inputs, at)?;
+        digest = digest.with(signature.as_bytes());
+    }
+    Ok(digest)
+}
+
+/// Does so with the signers that go on from each signature.
+pub fn followed_operations(alloc: Global, count: u32) -> anyhow::Result<Digest> {
     let identity = example_identity(alloc)?;
     let config = example_config(alloc)?;
     let mut digest = Digest::new();
     for number in 0..count {
-        let signature = operation_at(alloc, &identity, &config, number)?;
-        digest = digest.with(signature.as_bytes());
+        let mut request = example_request(alloc)?;
+        let signed = sign_operation(&mut request, &identity, &config, moment_of(number))?;
+        digest = digest.with(signed.signature.as_bytes());
     }
     Ok(digest)
+}
+
+/// The small request.
+pub fn example_request(alloc: Global) -> anyhow::Result<HttpRequest> {
+    let mut request = HttpRequest::new(alloc, "GET", TARGET)?;
+    request.headers = example_headers(alloc)?;
+    Ok(request)
 }
 
 /// The config of the small request's operation.
@@ -104,31 +127,13 @@ pub fn example_config(alloc: Global) -> Result<SigV4OperationSigningConfig, Allo
     })
 }
 
-fn operation_at(
-    alloc: Global,
-    identity: &Identity,
-    config: &SigV4OperationSigningConfig,
-    number: u32,
-) -> anyhow::Result<String> {
-    let mut request = HttpRequest::new(alloc, "GET", TARGET)?;
-    request.headers = example_headers(alloc)?;
-    Ok(sign_operation(&mut request, identity, config, moment_of(number))?.signature)
-}
-
 fn sign_operation(
     request: &mut HttpRequest,
     identity: &Identity,
     config: &SigV4OperationSigningConfig,
     at: Moment,
 ) -> Result<Signed, SigV4SigningError> {
-    let inputs = SigningInputs {
-        config: Some(config),
-        endpoint: None,
-        name: None,
-        region: None,
-        payload: None,
-        skew_millis: None,
-    };
+    let inputs = SigningInputs::from(config);
     let name_override = SigV4SessionTokenNameOverride::new(usual_name);
     SigV4Signer::new().sign_http_request(request, identity, &inputs, at, Some(&name_override))
 }
