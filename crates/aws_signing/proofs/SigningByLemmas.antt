@@ -1,6 +1,6 @@
 -- A request that is signed by a signer, for what its target spells.
 use Rattle.std.proofs.Common.{◌≡◌, ℕ, true, false, inl, inr, List, [], ◌∷◌, Option, Some, None, refl, ap, ◌∙◌, subst}
-use Rattle.std.specs.Prelude.{Ok, Err, Result, string_bytes, if◌then◌else◌}
+use Rattle.std.specs.Prelude.{Ok, Err, string_bytes, if◌then◌else◌}
 use Rattle.http_uri.specs.declared.uri.Uri.{Uri}
 use Rattle.smithy_core.specs.Civil.{is_in_years}
 use Rattle.smithy_core.specs.Identity.{IsSameIdentity}
@@ -12,15 +12,13 @@ use Rattle.smithy_http.specs.QueryWriter.{SpellsTarget}
 use Rattle.smithy_http.specs.Target.{Target, target_of}
 use Rattle.sigv4.specs.Body.{payload_text}
 use Rattle.sigv4.specs.ChunkTold.{unsigned_chunk_at}
-use Rattle.sigv4.specs.EventStream.{unsignable}
 use Rattle.sigv4.specs.Instructions.{Instructions, with_instructions}
-use Rattle.sigv4.specs.Parameters.{AppliesParams, takes_no_more, target_text_with}
+use Rattle.sigv4.specs.Parameters.{AppliesTo}
 use Rattle.sigv4.specs.KeptKey.{Kept, kept_at}
 use Rattle.sigv4.specs.Params.{signer_of, v4_identity, v4_settings, v4_time}
 use Rattle.sigv4.specs.Query.{Pair}
 use Rattle.sigv4.specs.Refusal.{unfit}
 use Rattle.sigv4.specs.Request.{Case, key_id_of, request_case, token_of}
-use Rattle.sigv4.specs.RequestSigning.{SignsCase}
 use Rattle.sigv4.specs.Settings.{settings_of}
 use Rattle.sigv4.specs.Signed.{instructions, parameters, signature_of, signed_headers, signed_target}
 use Rattle.sigv4.specs.declared.error.SigningError.{SigningError}
@@ -33,12 +31,10 @@ use Rattle.sigv4.specs.declared.signing_params.SigningParams.{SigningParams}
 use Rattle.sigv4.specs.declared.signing_params.SigningParams.TheVariants.{V4}
 use Rattle.sigv4.proofs.KeptKeyLemmas.{kept_signer}
 use Rattle.sigv4.proofs.RefusalLemmas.{not_taken, taken}
-use Rattle.aws_auth.specs.Steps.{RefusesTarget}
-use Rattle.aws_auth.proofs.SignerLemmas.{refused}
-use Rattle.presign_check.proofs.SignatureLemmas.{one_target, spelled_once}
+use Rattle.aws_auth.specs.Steps.{RefusesTarget, SignsParts}
 use Rattle.aws_signing.specs.KeyHolder.{HeldKey, IsHeldBy, key_kept}
 use Rattle.aws_signing.specs.declared.fault.AwsSigningError.{AwsSigningError}
-use Rattle.aws_signing.specs.SigningBy.{IsSignedRequestBy, unless_filled, RefusesBy, SigningState, SignsText, given_payload, in_form, signer_case, text_case}
+use Rattle.aws_signing.specs.SigningBy.{IsSignedRequestBy, unless_filled, RefusesBy, SigningState, given_payload, in_form, signer_case, text_case}
 
 -- the case that is signed is that of the request
 pub text_case_made : (request : HttpRequest) (payload : Option (List ℕ)) (params : SigningParams) (signable : SignableRequest)
@@ -49,13 +45,10 @@ text_case_made request payload (V4 params) signable method headers body = rw (me
 module _ (case : Target → Case) (aimed : (target : Target) → (case target).target ≡ target) where
   -- a target that takes no more parameters is refused
   pub not_put_in : (text new : List ℕ) (uri : Uri) (made : List Pair) (error : SigningError) → SpellsTarget text uri → unfit (case (target_of uri)) ≡ None
-      → made ≡ parameters (case (target_of uri)) → AppliesParams made text new (Err error) → RefusesTarget text case error
-  not_put_in text new uri made error spells fit is (inl (inl none, same)) = absurd (spelled_once text uri spells none)
-  not_put_in text new uri made error spells fit is (inl (inr other, same)) =
-      let one = one_target text other.0 uri other.1.0 spells in
-      let takes : takes_no_more made (target_of uri) ≡ true = rw (← one) other.2 in
-      let refusal = not_taken (case (target_of uri)) (target_of uri) made (aimed (target_of uri)) is takes in
-      inl (Some (target_of uri), (uri, spells, refl), rw (fit, refusal, same) refl)
+      → made ≡ parameters (case (target_of uri)) → AppliesTo made (target_of uri) text new (Err error) → RefusesTarget text case error
+  not_put_in text new uri made error spells fit is (inl over) =
+      let refusal = not_taken (case (target_of uri)) (target_of uri) made (aimed (target_of uri)) is over.0 in
+      inl (Some (target_of uri), (uri, spells, refl), rw (fit, refusal, over.1) refl)
   not_put_in text new uri made error spells fit is (inr memory) = inr memory
 
   -- what a signature adds is put into the request
@@ -63,20 +56,17 @@ module _ (case : Target → Case) (aimed : (target : Target) → (case target).t
       → (case (target_of uri)).headers ≡ old.headers → SpellsTarget (string_bytes old.target) uri → unfit (case (target_of uri)) ≡ None
       → made.headers ≡ instructions (case (target_of uri)) → made.params ≡ parameters (case (target_of uri)) → signature ≡ signature_of (case (target_of uri))
       → new.headers ≡ with_instructions old.headers made.headers
-      → AppliesParams made.params (string_bytes old.target) (string_bytes new.target) (Ok tt)
+      → AppliesTo made.params (target_of uri) (string_bytes old.target) (string_bytes new.target) (Ok tt)
       → IsSignedRequestBy case at (string_bytes old.target) new signature
   unfolding signed_headers signed_target
-  put_in at old new uri made signature years headed spells fit headers_are params_are signature_is headers (other, spelled, applies) =
-      let one = one_target (string_bytes old.target) other uri spelled.0 spells in
-      let takes : takes_no_more made.params (target_of uri) ≡ false = rw (← one) applies.0 in
-      let passed = taken (case (target_of uri)) (target_of uri) made.params (aimed (target_of uri)) params_are takes in
-      let text : string_bytes new.target ≡ target_text_with made.params (target_of uri) (string_bytes old.target) = rw (← one) applies.1 in record {
+  put_in at old new uri made signature years headed spells fit headers_are params_are signature_is headers applies =
+      let passed = taken (case (target_of uri)) (target_of uri) made.params (aimed (target_of uri)) params_are applies.0 in record {
         target = target_of uri;
         spelled = (uri, spells, refl);
         in_years = years;
         passed = rw (fit, passed) refl;
         headers = rw (headers, headers_are, headed) refl;
-        text_is = rw (text, params_are, aimed (target_of uri)) refl;
+        text_is = rw (applies.1, params_are, aimed (target_of uri)) refl;
         signature_is = signature_is;
       }
 
@@ -115,13 +105,6 @@ case_by by request payload seconds at params key_id token signer time settings =
   at = time i;
 }
 
--- what signing a case answers, where who signs it and when are not refused
-pub signs_text : (text : List ℕ) (case : Target → Case) (identity : Identity) (c : Case) (uri : Uri) (result : Result (SigningOutput SigningInstructions) SigningError)
-    → SpellsTarget text uri → c ≡ case (target_of uri) → unsignable identity c.at ≡ None → SignsCase identity c result → SignsText text case result
-signs_text text case identity c uri (Ok output) spells same able signs =
-    let fit : unfit c ≡ None = rw able at signs.0 in (uri, spells, rw (← same) fit, rw (← same) signs.1)
-signs_text text case identity c uri (Err error) spells same able signs = refused text case identity c uri error spells same able signs
-
 -- a text that isn't empty
 pub filled : (text : List ℕ) (fault : AwsSigningError) → (text ≡ [] → ⊥) → unless_filled text fault ≡ None
 filled [] fault some = absurd (some refl)
@@ -151,41 +134,41 @@ case_stays by holder method headers payload seconds at kept =
 -- a signer that keeps the key of the moment refuses what the signer does
 pub refused_by : (by : SigningState) (holder : HeldKey) (request : HttpRequest) (payload : Option (List ℕ)) (seconds : Option ℕ) (at : Instant)
     → holder ≡ key_kept by.holder at → unsigned_chunk_at at ≡ None → (error : SigningError)
-    → SignsText (string_bytes request.target)
+    → SignsParts (string_bytes request.target)
     (signer_case (record by { holder = holder }) (string_bytes request.method) request.headers (given_payload payload request.body) seconds at) (Err error)
     → RefusesBy (signer_case by (string_bytes request.method) request.headers (given_payload payload request.body) seconds at) at (string_bytes request.target) error
 refused_by by holder request payload seconds at kept years error signs =
-    let P : (Target → Case) → Type 0 = λ case. SignsText (string_bytes request.target) case (Err error) in
+    let P : (Target → Case) → Type 0 = λ case. SignsParts (string_bytes request.target) case (Err error) in
     let same = case_stays by holder (string_bytes request.method) request.headers (given_payload payload request.body) seconds at kept in
     inr (years, subst P same signs)
 
 -- what a signer's signature adds isn't put into a request
 pub not_put_in_by : (by : SigningState) (holder : HeldKey) (request : HttpRequest) (payload : Option (List ℕ)) (seconds : Option ℕ) (at : Instant)
-    → holder ≡ key_kept by.holder at → unsigned_chunk_at at ≡ None → (output : SigningOutput SigningInstructions)
-    → SignsText (string_bytes request.target)
-    (signer_case (record by { holder = holder }) (string_bytes request.method) request.headers (given_payload payload request.body) seconds at) (Ok output)
-    → (new : List ℕ) (error : SigningError) → AppliesParams output.output.params (string_bytes request.target) new (Err error)
+    → holder ≡ key_kept by.holder at → unsigned_chunk_at at ≡ None → (output : SigningOutput SigningInstructions) (uri : Uri)
+    → SignsParts (string_bytes request.target)
+    (signer_case (record by { holder = holder }) (string_bytes request.method) request.headers (given_payload payload request.body) seconds at) (Ok (output, uri))
+    → (new : List ℕ) (error : SigningError) → AppliesTo output.output.params (target_of uri) (string_bytes request.target) new (Err error)
     → RefusesBy (signer_case by (string_bytes request.method) request.headers (given_payload payload request.body) seconds at) at (string_bytes request.target) error
-not_put_in_by by holder request payload seconds at kept years output signs new error applies =
+not_put_in_by by holder request payload seconds at kept years output uri signs new error applies =
     let own = signer_case by (string_bytes request.method) request.headers (given_payload payload request.body) seconds at in
     let same = case_stays by holder (string_bytes request.method) request.headers (given_payload payload request.body) seconds at kept in
-    let P : (Target → Case) → Type 0 = λ case. SignsText (string_bytes request.target) case (Ok output) in
+    let P : (Target → Case) → Type 0 = λ case. SignsParts (string_bytes request.target) case (Ok (output, uri)) in
     let signed = subst P same signs in
-    inr (years, not_put_in own (λ target. refl) (string_bytes request.target) new signed.0 output.output.params error signed.1 signed.2 signed.3.params applies)
+    inr (years, not_put_in own (λ target. refl) (string_bytes request.target) new uri output.output.params error signed.0 signed.1 signed.2.params applies)
 
 -- what a signer's signature adds is put into a request
 pub put_in_by : (by : SigningState) (holder : HeldKey) (request new : HttpRequest) (payload : Option (List ℕ)) (seconds : Option ℕ) (at : Instant)
-    → holder ≡ key_kept by.holder at → unsigned_chunk_at at ≡ None → (output : SigningOutput SigningInstructions)
-    → SignsText (string_bytes request.target)
-    (signer_case (record by { holder = holder }) (string_bytes request.method) request.headers (given_payload payload request.body) seconds at) (Ok output)
+    → holder ≡ key_kept by.holder at → unsigned_chunk_at at ≡ None → (output : SigningOutput SigningInstructions) (uri : Uri)
+    → SignsParts (string_bytes request.target)
+    (signer_case (record by { holder = holder }) (string_bytes request.method) request.headers (given_payload payload request.body) seconds at) (Ok (output, uri))
     → new.headers ≡ with_instructions request.headers output.output.headers
-    → AppliesParams output.output.params (string_bytes request.target) (string_bytes new.target) (Ok tt)
+    → AppliesTo output.output.params (target_of uri) (string_bytes request.target) (string_bytes new.target) (Ok tt)
     → IsSignedRequestBy (signer_case by (string_bytes request.method) request.headers (given_payload payload request.body) seconds at) at (string_bytes request.target) new
     (string_bytes output.signature)
-put_in_by by holder request new payload seconds at kept years output signs headers applies =
+put_in_by by holder request new payload seconds at kept years output uri signs headers applies =
     let own = signer_case by (string_bytes request.method) request.headers (given_payload payload request.body) seconds at in
     let same = case_stays by holder (string_bytes request.method) request.headers (given_payload payload request.body) seconds at kept in
-    let P : (Target → Case) → Type 0 = λ case. SignsText (string_bytes request.target) case (Ok output) in
+    let P : (Target → Case) → Type 0 = λ case. SignsParts (string_bytes request.target) case (Ok (output, uri)) in
     let signed = subst P same signs in
-    put_in own (λ target. refl) at request new signed.0 output.output (string_bytes output.signature) years refl signed.1 signed.2 signed.3.headers signed.3.params
-    signed.3.signature headers applies
+    put_in own (λ target. refl) at request new uri output.output (string_bytes output.signature) years refl signed.0 signed.1 signed.2.headers signed.2.params
+    signed.2.signature headers applies

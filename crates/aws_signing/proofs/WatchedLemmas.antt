@@ -19,7 +19,6 @@ use Rattle.chain_watch.proofs.WalkLemmas.{starts}
 use Rattle.aws_signing.specs.SigningFaults.{of_chain}
 use Rattle.aws_signing.specs.Watched.{ChecksEvents, EndsWatched, FeedsWatched, IsFedSoFar}
 use Rattle.aws_signing.specs.declared.fault.AwsSigningError.{AwsSigningError}
-use Rattle.aws_signing.specs.declared.fault.AwsSigningError.TheVariants as faults
 
 -- no byte was taken yet
 pub fed_nothing : (signer : Signer) (seed all : List ℕ) → IsFedSoFar signer seed all all (new_watch signer seed) []

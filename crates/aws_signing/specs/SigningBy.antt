@@ -2,27 +2,21 @@
 use Rattle.std.specs.Prelude.{◌≡◌, ◌⊎◌, ℕ, List, [], Option, Some, None, unwrap_or, Result, Ok, Err, String, string_bytes}
 use Rattle.std.specs.Option.{option_or}
 use Rattle.std.specs.declared.alloc.Global.{Global}
-use Rattle.http_uri.specs.declared.uri.Uri.{Uri}
 use Rattle.sha2.specs.Sha256.{sha256}
 use Rattle.hex.specs.Hex.{encode_lower}
 use Rattle.smithy_core.specs.Identity.{access_key_id, secret_access_key}
 use Rattle.smithy_core.specs.Moment.{Instant}
 use Rattle.smithy_core.specs.declared.identity.Credentials.{Credentials as Keys}
 use Rattle.smithy_core.specs.declared.request.HttpRequest.{HttpRequest}
-use Rattle.smithy_http.specs.QueryWriter.{SpellsTarget}
-use Rattle.smithy_http.specs.Target.{Target, target_of}
+use Rattle.smithy_http.specs.Target.{Target}
 use Rattle.sigv4.specs.ChunkTold.{unsigned_chunk_at}
 use Rattle.sigv4.specs.Parameters.{SpellsParts}
 use Rattle.sigv4.specs.Params.{signer_of, v4_identity, v4_settings, v4_time}
 use Rattle.sigv4.specs.Query.{Pair}
-use Rattle.sigv4.specs.Refusal.{unfit}
 use Rattle.sigv4.specs.Request.{Case, key_id_of, token_of}
-use Rattle.sigv4.specs.RequestSigning.{IsSigned}
 use Rattle.sigv4.specs.Settings.{Settings, settings_of}
 use Rattle.sigv4.specs.Signed.{signature_of, signed_headers, signed_target}
 use Rattle.sigv4.specs.declared.error.SigningError.{SigningError}
-use Rattle.sigv4.specs.declared.instructions.SigningInstructions.{SigningInstructions}
-use Rattle.sigv4.specs.declared.output.SigningOutput.{SigningOutput}
 use Rattle.sigv4.specs.declared.settings.SignatureLocation.TheVariants.{QueryParams}
 use Rattle.sigv4.specs.declared.signing_params.SigningParams.{SigningParams}
 use Rattle.sigv4.specs.declared.signing_params.SigningParams.TheVariants.{V4}
@@ -139,9 +133,3 @@ text_case request payload (V4 params) target = record {
   signer = signer_of params;
   at = v4_time params;
 }
-
--- what a signature adds to the request of a case for what the text spells, and the signature; or a test fails, or memory ran out
-abbrev pub SignsText : List ℕ → (Target → Case) → Result (SigningOutput SigningInstructions) SigningError → Type 0
-SignsText text case (Ok output) =
-    (uri : Uri) × SpellsTarget text uri × (unfit (case (target_of uri)) ≡ None) × IsSigned (case (target_of uri)) output
-SignsText text case (Err error) = RefusesTarget text case error

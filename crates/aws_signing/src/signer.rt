@@ -7,13 +7,15 @@ ghost use Rattle.sigv4.specs.Request.{identity_of};
 ghost use Rattle.sigv4.specs.RequestSigning.{IsRequestKey};
 ghost use Rattle.sigv4.specs.Settings.{default_settings, s3_settings, settings_of};
 ghost use Rattle.sigv4.specs.SigningParams.{params_time};
-ghost use Rattle.aws_signing.specs.SigningBy.{MakesSigner, SignsBy, SignsRequestBy, SignsText, TestsTexts, given_payload, settings_case, in_form, signer_case, signer_kept, text_case};
+ghost use Rattle.aws_auth.specs.Steps.{SignsParts};
+ghost use Rattle.aws_signing.specs.SigningBy.{MakesSigner, SignsBy, SignsRequestBy, TestsTexts, given_payload, settings_case, in_form, signer_case, signer_kept, text_case};
 
 use crate::fault::AwsSigningError;
 use crate::key_holder::KeyHolder;
+use http_uri::Uri;
 use sigv4::{
     SignableBody, SignableRequest, SignatureLocation, SigningError, SigningInstructions,
-    SigningOutput, SigningParams, SigningSettings, sign_with_key,
+    SigningOutput, SigningParams, SigningSettings, sign_request_with_key,
 };
 use smithy_core::{Credentials, HttpRequest, Mem, Moment};
 use std::alloc::Global;
@@ -200,35 +202,35 @@ impl Signer {
         ensures kept { self.new ≡ signer_kept self.old at }
     {
         let key = self.holder.key_at(at)?;
-        let output = self.output_under(&key, request, payload, seconds, at)?;
+        let (output, uri) = self.parts_under(&key, request, payload, seconds, at)?;
         let (instructions, signature) = output.into_parts();
-        instructions.apply_to_request(request)?;
+        instructions.apply_to_parsed(request, &uri)?;
         Ok(signature)
     }
 
-    // What a signature under the key of a moment adds to a request, and the signature. The parameters borrow the texts of the
-    // settings, since a copy of them took a signature 3 in 100 longer.
-    fn output_under(
+    // What a signature under the key of a moment adds to a request, and what was read of its target. The parameters borrow the texts
+    // of the settings, since a copy of them took a signature 3 in 100 longer.
+    fn parts_under(
         &mut self,
         key: &[u8; 32],
         request: &HttpRequest,
         payload: Option<&str>,
         seconds: Option<u64>,
         at: Moment,
-    ) -> Result<SigningOutput<SigningInstructions>, SigningError>
+    ) -> Result<(SigningOutput<SigningInstructions>, Uri), SigningError>
         requires years { unsigned_chunk_at at ≡ None }
         requires key { key.now ≡ signing_key self.old.holder.kept.signer at }
-        ensures output { SignsText (string_bytes request.now.target) (signer_case self.old (string_bytes request.now.method) request.now.headers
+        ensures parts { SignsParts (string_bytes request.now.target) (signer_case self.old (string_bytes request.now.method) request.now.headers
             (given_payload (option_copied payload.entry) request.now.body) seconds at) result }
         ensures kept { self.new ≡ self.old }
     {
         let settings = settings_lent(&mut self.settings, seconds);
         let mut params = SigningParams::V4(self.holder.params(at, settings));
-        let output = signed_output(self.holder.allocator(), request, payload, &params, key);
+        let parts = signed_parts(self.holder.allocator(), request, payload, &params, key);
         let settings = params.settings_mut();
         self.settings.excluded_headers = settings.excluded_headers.take();
         self.settings.session_token_name_override = settings.session_token_name_override.take();
-        output
+        parts
     }
 }
 
@@ -277,17 +279,17 @@ fn test_texts(credentials: &Credentials, region: &str, name: &str) -> Result<(),
     Ok(())
 }
 
-// What a signature adds to a request, and the signature.
-fn signed_output(
+// What a signature under a key adds to a request, and what was read of its target.
+fn signed_parts(
     alloc: Global,
     request: &HttpRequest,
     payload: Option<&str>,
     params: &SigningParams<'_>,
     key: &[u8; 32],
-) -> Result<SigningOutput<SigningInstructions>, SigningError>
+) -> Result<(SigningOutput<SigningInstructions>, Uri), SigningError>
     requires able { unsignable (identity_of params.now) (params_time params.now) ≡ None }
     requires key { IsRequestKey params.now key.now }
-    ensures { SignsText (string_bytes request.now.target) (text_case request.now (option_copied payload.entry) params.now) result }
+    ensures { SignsParts (string_bytes request.now.target) (text_case request.now (option_copied payload.entry) params.now) result }
 {
     let body = signable_body(alloc, payload, request.body.as_slice())?;
     let signable = SignableRequest::new(
@@ -297,7 +299,8 @@ fn signed_output(
         &request.headers,
         body,
     )?;
-    sign_with_key(alloc, signable, params, key)
+    let output = sign_request_with_key(alloc, &signable, params, key)?;
+    Ok((output, signable.into_uri()))
 }
 
 // What is signed of a body, or in its place.

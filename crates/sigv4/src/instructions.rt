@@ -11,7 +11,7 @@ use crate::error::SigningError;
 use crate::header::{Header, HeaderPairs};
 use crate::parameters::target_with;
 use http_uri::Uri;
-use smithy_core::{Headers, HttpRequest, Mem};
+use smithy_core::{HttpRequest, Mem};
 use smithy_http::read_target;
 use std::alloc::Global;
 use std::marker::Model;

@@ -74,7 +74,9 @@ pub use crate::modes::{PercentEncodingMode, UriPathNormalizationMode};
 pub use crate::output::SigningOutput;
 pub use crate::path::normalize_uri_path;
 pub use crate::request::SignableRequest;
-pub use crate::request_signing::{canonical_text, sign, sign_request, sign_with_key};
+pub use crate::request_signing::{
+    canonical_text, sign, sign_request, sign_request_with_key, sign_with_key,
+};
 pub use crate::settings::{
     PayloadChecksumKind, SessionTokenMode, SignatureLocation, SigningSettings,
 };

@@ -86,8 +86,7 @@ pub fn sign_with_key(
     requires { IsRequestKey params.now key.now }
     ensures { SignsCase (identity_of params.now) (request_case request.entry params.now) result }
 {
-    let SigningParams::V4(params) = params;
-    sign_v4(alloc, &request, params, key)
+    sign_request_with_key(alloc, &request, params, key)
 }
 
 /// Signs a request as [`sign`] does, and leaves it to its caller. The SDK has no such public call.
@@ -115,6 +114,26 @@ pub fn sign_request(
     let SigningParams::V4(params) = params;
     let key = signing_key_of(params)?;
     sign_v4(alloc, request, params, &key)
+}
+
+/// Signs a request as [`sign_with_key`] does, and leaves it to its caller as [`sign_request`] does. The SDK has no such public call.
+///
+/// The condition on the key is that of [`sign_with_key`].
+///
+/// # Errors
+///
+/// Those of [`sign`].
+pub fn sign_request_with_key(
+    alloc: Global,
+    request: &SignableRequest<'_>,
+    params: &SigningParams<'_>,
+    key: &[u8; 32],
+) -> Result<SigningOutput<SigningInstructions>, SigningError>
+    requires { IsRequestKey params.now key.now }
+    ensures { SignsCase (identity_of params.now) (request_case request.now params.now) result }
+{
+    let SigningParams::V4(params) = params;
+    sign_v4(alloc, request, params, key)
 }
 
 // The signed request under the signing key of the parameters.
