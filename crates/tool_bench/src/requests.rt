@@ -2,11 +2,13 @@
 use crate::digest::Digest;
 use crate::signing::{example_identity, example_request, moment_of};
 use aws_signing::Signer;
-use sigv4::{SignableRequest, SigningParams, SigningSettings, sign, sign_with_key, v4};
+use sigv4::{
+    SignableRequest, SigningParams, SigningSettings, sign_request, sign_request_with_key, v4,
+};
 use smithy_core::{Credentials, HttpRequest};
 use std::alloc::Global;
 
-/// Makes and signs the small request so many times by `sign`, each a second after the last one.
+/// Makes and signs the small request so many times by `sign_request`, each a second after the last one.
 pub fn by_parameters(alloc: Global, count: u32) -> anyhow::Result<Digest> {
     let identity = example_identity(alloc)?;
     let mut digest = Digest::new();
@@ -28,8 +30,9 @@ fn sign_in_place(
     params: &SigningParams<'_>,
 ) -> anyhow::Result<String> {
     let signable = SignableRequest::from_http_request(alloc, request)?;
-    let (made, signature) = sign(alloc, signable, params)?.into_parts();
-    made.apply_to_request(request)?;
+    let (made, signature) = sign_request(alloc, &signable, params)?.into_parts();
+    let uri = signable.into_uri();
+    made.apply_to_parsed(request, &uri)?;
     Ok(signature)
 }
 
@@ -45,7 +48,7 @@ pub fn by_signer(alloc: Global, count: u32) -> anyhow::Result<Digest> {
     Ok(digest)
 }
 
-/// Makes and signs the small request so many times by `sign_with_key`, with the same parameters, under one key.
+/// Makes and signs the small request so many times by `sign_request_with_key`, with the same parameters, under one key.
 pub fn by_key(alloc: Global, count: u32) -> anyhow::Result<Digest> {
     let identity = example_identity(alloc)?;
     let settings = SigningSettings::new(alloc)?;
@@ -56,8 +59,10 @@ pub fn by_key(alloc: Global, count: u32) -> anyhow::Result<Digest> {
     for _ in 0..count {
         let mut request = example_request(alloc)?;
         let signable = SignableRequest::from_http_request(alloc, &request)?;
-        let (made, signature) = sign_with_key(alloc, signable, &params, &key)?.into_parts();
-        made.apply_to_request(&mut request)?;
+        let signed = sign_request_with_key(alloc, &signable, &params, &key)?;
+        let (made, signature) = signed.into_parts();
+        let uri = signable.into_uri();
+        made.apply_to_parsed(&mut request, &uri)?;
         digest = digest.with(signature.as_bytes());
     }
     Ok(digest)
